@@ -1,0 +1,56 @@
+-- MS CIP is a framing, so cutting its stream is harmless.
+use mathlib.Core.Path.{_≡_, refl, sym, _∙_}
+use mathlib.Core.Bool.{Bool, true, false, _&&_}
+use mathlib.Core.List.{List, [], _∷_, _++_}
+use Prim.Native.Nat.{ℕ, _+_, _≤_, _<_}
+use native.Mathlib.Omega.{arith}
+use lib.Dec.{eqb}
+use lib.ListN.{length, List·getD-append}
+use Rattle.stream.specs.declared.Sought.{Sought}
+use Rattle.stream.specs.declared.Sought.the-variants.{Starved, Found}
+use Rattle.stream.specs.Framing.{Framing}
+use Rattle.stream.specs.Seek.{seek}
+use Rattle.stream.specs.Cutting.{Cutting, StarvedAt, Sized}
+use Rattle.stream.proofs.Framings.{Header, framing}
+use Rattle.stream.proofs.Cuts.{cutting, starved-is}
+use Rattle.message.specs.Message.{lengthOf, sumsRight}
+use Rattle.message.specs.Front.{marked, opens, sizeOf, front, longest}
+use Rattle.message.specs.Theorems.{CuttingHarmless}
+
+-- Two bytes decide the opening,
+opens-append : (u v : List ℕ) → 2 ≤ length u → opens (u ++ v) ≡ opens u
+opens-append [] v h = absurd (omega arith)
+opens-append (x ∷ []) v h = absurd (omega arith)
+opens-append (x ∷ y ∷ u) v h = refl
+
+opens-false : (u v : List ℕ) → opens u ≡ false → opens (u ++ v) ≡ false
+opens-false [] v e = cc
+opens-false (x ∷ []) v e = go (eqb x 0xA5) e
+  where
+    go : (b : Bool) → b && true ≡ false → b && marked v ≡ false
+    go true p = cc
+    go false p = refl
+opens-false (x ∷ y ∷ u) v e = e
+
+-- and four the size.
+size-append : (u v : List ℕ) → 4 ≤ length u → sizeOf (u ++ v) ≡ sizeOf u
+size-append u v h = rw (List·getD-append u v 0 3 (omega arith))
+
+header : Header opens sizeOf 260 2 4
+header = record { opens-append = opens-append; opens-false = opens-false; size-append = size-append; bounds = λ u. omega arith }
+
+pub ms-cip : Framing front longest 2
+unfolding front
+ms-cip = framing header sumsRight
+
+pub cutting-harmless : CuttingHarmless
+cutting-harmless = cutting ms-cip
+
+-- ---- where a seek ends is within the bytes
+
+module _ (u : List ℕ) (r : Sought) (is : r ≡ seek front u) where
+  pub starved-within : (k : ℕ) → r ≡ Starved k → k ≤ length u
+  starved-within k e = starved-is cutting-harmless u k (sym is ∙ e) .inside
+
+  pub found-within : (k n : ℕ) (good : Bool) → r ≡ Found k n good → k + n ≤ length u
+  found-within k n good e = cutting-harmless .found-sized u k n good (sym is ∙ e) .inside

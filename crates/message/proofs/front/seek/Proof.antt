@@ -1,0 +1,69 @@
+-- `message::front::seek` meets its contract. Invariant: what remains to be sought is what is sought in all.
+use borrow.Author.Needs.{needs}
+use native.Mathlib.Omega.{arith}
+use Prim.Native.Nat.{_-_, _<_, _≤_}
+use mathlib.Core.Path.{_≡_}
+use lib.ListN.{length, drop}
+use denote.Ref.{now}
+use Rattle.stream.specs.Seek.{beyond, seek}
+use Rattle.stream.proofs.Seeks.{seek-starts, seek-skips, seek-starves, seek-finds}
+use Rattle.message.specs.Front.{front}
+use Rattle.message.proofs.Fronts.{skip-there, whole-there}
+use Rattle.message.proofs.front.seek.Statement.{statement}
+use Rattle.message.proofs.front.seek.Tie as tie
+
+abbrev Inv-loop : tie.InvT-loop
+Inv-loop s at₀ at = (at ≤ length s) × (seek front s ≡ beyond at (seek front (drop at s)))
+
+abbrev μ-loop : tie.MeasureT-loop
+μ-loop s at₀ at = length s - at
+
+loop-holds : tie.Need-loop-holds Inv-loop μ-loop
+loop-holds c = (omega arith, seek-starts front _)
+
+front-at-requires : tie.Need-front-at-requires Inv-loop μ-loop
+front-at-requires c κs = search needs
+
+enum-told : tie.Need-enum-told Inv-loop μ-loop
+enum-told c = search needs
+
+there : (c : tie.After-enum-told Inv-loop μ-loop) → c .before .before .before .loop .at < length (c .before .before .before .before .before .args .s .now)
+there c = search (skip-there, needs)
+
+add-at : tie.Need-add-at Inv-loop μ-loop
+add-at c = let h = there c in omega arith
+
+loop-less : tie.Need-loop-less Inv-loop μ-loop
+loop-less c = let h = there c in omega arith
+
+loop-again : tie.Need-loop-again Inv-loop μ-loop
+loop-again c = (let h = there c in omega arith, search (seek-skips, skip-there, needs))
+
+enum-told-2 : tie.Need-enum-told-2 Inv-loop μ-loop
+enum-told-2 c = search needs
+
+returns : tie.Need-returns Inv-loop μ-loop
+returns c = search (seek-starves, needs)
+
+enum-known-n : tie.Need-enum-known-n Inv-loop μ-loop
+enum-known-n c = search needs
+
+returns-2 : tie.Need-returns-2 Inv-loop μ-loop
+returns-2 c = search (seek-finds, whole-there, needs)
+
+pub seek-spec : {M : Type 1} → statement M
+seek-spec =
+    tie.close
+    (tie.spec
+    Inv-loop
+    μ-loop
+    loop-holds
+    front-at-requires
+    enum-told
+    add-at
+    loop-less
+    loop-again
+    enum-told-2
+    returns
+    enum-known-n
+    returns-2)

@@ -1,0 +1,75 @@
+-- `message::window::seek_over` meets its contract. Invariant: what remains to be sought is what is sought in all.
+use borrow.Author.Needs.{needs}
+use native.Mathlib.Omega.{arith}
+use Prim.Native.Nat.{_-_, _<_, _≤_}
+use mathlib.Core.Path.{_≡_}
+use mathlib.Core.List.{_++_}
+use lib.ListN.{length, drop}
+use Rattle.stream.specs.Seek.{beyond, seek}
+use Rattle.stream.proofs.Seeks.{seek-starts, seek-skips, seek-starves, seek-finds}
+use Rattle.message.specs.Front.{front}
+use Rattle.message.proofs.Fronts.{skip-there, whole-there}
+use Rattle.message.proofs.Windows.{seek-chunk}
+use Rattle.message.proofs.window.seek_over.Statement.{statement}
+use Rattle.message.proofs.window.seek_over.Tie as tie
+
+abbrev Inv-loop : tie.InvT-loop
+Inv-loop held chunk h at₀ at = (at ≤ length held) × (seek front (held ++ chunk) ≡ beyond at (seek front (drop at (held ++ chunk))))
+
+abbrev μ-loop : tie.MeasureT-loop
+μ-loop held chunk h at₀ at = length held - at
+
+loop-holds : tie.Need-loop-holds Inv-loop μ-loop
+loop-holds c = (omega arith, seek-starts front _)
+
+front-over-requires : tie.Need-front-over-requires Inv-loop μ-loop
+front-over-requires c κs = search needs
+
+enum-told : tie.Need-enum-told Inv-loop μ-loop
+enum-told c = search needs
+
+add-at : tie.Need-add-at Inv-loop μ-loop
+add-at c = search needs
+
+loop-less : tie.Need-loop-less Inv-loop μ-loop
+loop-less c = search needs
+
+loop-again : tie.Need-loop-again Inv-loop μ-loop
+loop-again c = (omega arith, search (seek-skips, skip-there, needs))
+
+enum-told-2 : tie.Need-enum-told-2 Inv-loop μ-loop
+enum-told-2 c = search needs
+
+returns : tie.Need-returns Inv-loop μ-loop
+returns c = search (seek-starves, needs)
+
+enum-known-n : tie.Need-enum-known-n Inv-loop μ-loop
+enum-known-n c = search needs
+
+returns-2 : tie.Need-returns-2 Inv-loop μ-loop
+returns-2 c = search (seek-finds, whole-there, needs)
+
+seek-after-requires : tie.Need-seek-after-requires Inv-loop μ-loop
+seek-after-requires c κs = search needs
+
+returns-3 : tie.Need-returns-3 Inv-loop μ-loop
+returns-3 c = search (seek-chunk, needs)
+
+pub seek-over-spec : {M : Type 1} → statement M
+seek-over-spec =
+    tie.close
+    (tie.spec
+    Inv-loop
+    μ-loop
+    loop-holds
+    front-over-requires
+    enum-told
+    add-at
+    loop-less
+    loop-again
+    enum-told-2
+    returns
+    enum-known-n
+    returns-2
+    seek-after-requires
+    returns-3)

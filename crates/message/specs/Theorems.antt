@@ -1,0 +1,57 @@
+-- What is proved of a message's definitions, beyond the contracts of the code. The proofs stand in proofs/.
+use mathlib.Core.Path.{_≡_}
+use mathlib.Core.Bool.{Bool, true}
+use mathlib.Core.List.{List, [], _∷_, _++_}
+use mathlib.Core.Option.{Option, some}
+use Prim.Native.Nat.{ℕ, _+_, _≤_, _<_}
+use lib.ListN.{length, getD}
+use Rattle.stream.specs.declared.Verdict.the-variants.{Whole}
+use Rattle.stream.specs.Scan.{reported, messageAt, events}
+use Rattle.stream.specs.Cutting.{Cutting}
+use Rattle.message.specs.Fields.{Field, Sized, rowBytes, fieldsOf}
+use Rattle.message.specs.Fletcher.{sums, totals, reduced}
+use Rattle.message.specs.Front.{front, longest}
+use Rattle.message.specs.Message.{messageOf, typeOf, payloadOf}
+use Rattle.message.specs.Whole.{wholeNumber}
+
+-- The wrapped sums are the plain sums modulo 256.
+abbrev pub SumsModulo : Type 0
+SumsModulo = (bs : List ℕ) → sums bs ≡ reduced (totals bs)
+
+-- 003's Ping table: 335 and 1494 in row 4, and the final bytes 4F 25.
+pub record PingTable : Type 0 where
+  pub row-4 : totals (0xA5 ∷ 0xA5 ∷ 0x01 ∷ 0x02 ∷ 0x02 ∷ []) ≡ record { t1 = 335; t2 = 1494 }
+  pub final : messageOf 0x01 (0x02 ∷ 0x00 ∷ []) ≡ 0xA5 ∷ 0xA5 ∷ 0x01 ∷ 0x02 ∷ 0x02 ∷ 0x00 ∷ 0x4F ∷ 0x25 ∷ []
+
+-- Cutting an MS CIP stream is harmless, and an undecided front is at most 260 bytes.
+abbrev pub CuttingHarmless : Type 0
+CuttingHarmless = Cutting front longest
+
+-- What the plain writer writes, of any type and a payload of at most 255 bytes.
+pub record RoundTrip (kind : ℕ) (payload : List ℕ) : Type 0 where
+  -- L + 6 bytes
+  pub size : length (messageOf kind payload) ≡ length payload + 6
+  -- one whole message
+  pub whole : wholeNumber (messageOf kind payload) ≡ 0
+  -- a good message at the front, whatever follows
+  pub good : (v : List ℕ) → front (messageOf kind payload ++ v) ≡ Whole (length payload + 6) true
+  -- the scan reports it, and goes on after it
+  pub scanned : (v : List ℕ) → events front (messageOf kind payload ++ v)
+      ≡ reported (record { good = true; bytes = messageOf kind payload }) ∷ events front v
+  -- type and payload are read back
+  pub kind-back : typeOf (messageOf kind payload) ≡ kind
+  pub payload-back : payloadOf (messageOf kind payload) ≡ payload
+
+abbrev pub WrittenIsRead : Type 0
+WrittenIsRead = (kind : ℕ) (payload : List ℕ) → length payload ≤ 255 → RoundTrip kind payload
+
+-- The other way: one whole message is what the plain writer writes of its type and payload. (L is a byte.)
+abbrev pub ReadIsWritten : Type 0
+ReadIsWritten = (m : List ℕ) → getD m 3 0 < 256 → wholeNumber m ≡ 0 → messageOf (typeOf m) (payloadOf m) ≡ m
+
+-- Fields that fill a payload are that payload's bytes, and fields written one after the other are read back.
+abbrev pub FieldsFill : Type 0
+FieldsFill = (payload : List ℕ) (fs : List Field) → fieldsOf payload ≡ some fs → rowBytes fs ≡ payload
+
+abbrev pub FieldsBack : Type 0
+FieldsBack = (fs : List Field) → Sized fs → fieldsOf (rowBytes fs) ≡ some fs

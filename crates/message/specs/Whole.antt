@@ -1,0 +1,22 @@
+-- Document 01, "Numbers of the calls", 21 and 22: is this one whole message?
+use mathlib.Core.Bool.{Bool, true, false, _&&_, not}
+use mathlib.Core.List.{List}
+use Prim.Native.Nat.{ℕ}
+use lib.Dec.{eqb, ltb}
+use lib.ListN.{length}
+use Rattle.message.specs.Message.{sumsRight}
+use Rattle.message.specs.Front.{opens, sizeOf}
+
+-- The number n where the test is true, else what follows: an order of tests.
+abbrev pub refuse : Bool → ℕ → ℕ → ℕ
+refuse true n next = n
+refuse false n next = next
+
+-- Under 6 bytes, no A5 A5, or not L + 6 bytes; then sums wrong.
+unfoldable pub wholeNumber : List ℕ → ℕ
+wholeNumber m =
+    refuse (ltb (length m) 6) 21
+    (refuse (not (opens m)) 21
+    (refuse (not (eqb (length m) (sizeOf m))) 21
+    (refuse (not (sumsRight m)) 22
+    0)))

@@ -1,0 +1,78 @@
+// The verdict at the front of unread bytes, and the seek for the next message, in one slice.
+ghost use mathlib.Core.Path.{_≡_};
+ghost use Prim.Native.Nat.{_+_, _%_, _≤_};
+ghost use lib.ListN.{length, take, drop};
+ghost use Rattle.stream.specs.Seek.{seek};
+ghost use Rattle.message.specs.Message.{sumsRight};
+ghost use Rattle.message.specs.Front.{front};
+use crate::fletcher::Sums;
+use stream::Sought;
+use stream::Verdict;
+
+// L + 6, the size of a message with the length byte `l`.
+pub(crate) fn size_from(l: u8) -> usize
+    ensures { λ r. ⌜ r ≡ l % 256 + 6 ⌝ }
+{
+    l as usize + 6
+}
+
+// Whether the last two of the `n` bytes from `at` are the sums of those before them.
+pub(crate) fn sums_right(s: &[u8], at: usize, n: usize) -> bool
+    requires { ⌜ (2 ≤ n) × (at + n ≤ length (now s)) ⌝ }
+    ensures { λ r. ⌜ r ≡ sumsRight (take n (drop at (now (s .entry)))) ⌝ }
+{
+    let e = at + (n - 2);
+    let t = Sums::new().over(&s[at..e]);
+    if s[e] == t.f1 {
+        s[e + 1] == t.f2
+    } else {
+        false
+    }
+}
+
+// What stands at the front of the bytes of `s` from `at` on.
+pub fn front_at(s: &[u8], at: usize) -> Verdict
+    ensures { λ r. ⌜ r ≡ front (drop at (now (s .entry))) ⌝ }
+{
+    if s.len() <= at {
+        return Verdict::Undecided;
+    }
+    let left = s.len() - at;
+    if s[at] != 0xA5 {
+        return Verdict::Skip;
+    }
+    if left < 2 {
+        return Verdict::Undecided;
+    }
+    if s[at + 1] != 0xA5 {
+        return Verdict::Skip;
+    }
+    if left < 4 {
+        return Verdict::Undecided;
+    }
+    let n = size_from(s[at + 3]);
+    if left < n {
+        return Verdict::Undecided;
+    }
+    Verdict::Whole(n, sums_right(s, at, n))
+}
+
+// Where the seek through `s` ends.
+pub fn seek(s: &[u8]) -> Sought
+    ensures { λ r. ⌜ r ≡ seek front (now (s .entry)) ⌝ }
+{
+    let mut at = 0;
+    loop {
+        match front_at(s, at) {
+            Verdict::Skip => {
+                at += 1;
+            }
+            Verdict::Undecided => {
+                return Sought::Starved(at);
+            }
+            Verdict::Whole(n, good) => {
+                return Sought::Found(at, n, good);
+            }
+        }
+    }
+}

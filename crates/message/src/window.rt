@@ -1,0 +1,120 @@
+// The same over bytes that are held and then a chunk, which are never copied together.
+ghost use mathlib.Core.Path.{_≡_};
+ghost use mathlib.Core.List.{_++_};
+ghost use Prim.Native.Nat.{_+_, _-_, _≤_, _<_};
+ghost use lib.ListN.{length, take, drop, getD};
+ghost use Rattle.stream.specs.Seek.{beyond, seek};
+ghost use Rattle.message.specs.Fletcher.{sums};
+ghost use Rattle.message.specs.Message.{sumsRight};
+ghost use Rattle.message.specs.Front.{front};
+use crate::fletcher::Sums;
+use crate::front::front_at;
+use crate::front::seek;
+use crate::front::size_from;
+use stream::Sought;
+use stream::Verdict;
+
+fn byte_over(held: &[u8], chunk: &[u8], i: usize) -> u8
+    requires { ⌜ i < length (now held) + length (now chunk) ⌝ }
+    ensures { λ r. ⌜ r ≡ getD (now (held .entry) ++ now (chunk .entry)) i 0 ⌝ }
+{
+    let h = held.len();
+    if i < h { held[i] } else { chunk[i - h] }
+}
+
+// The sums of the bytes from..to, of which the first is held.
+fn sums_over(held: &[u8], chunk: &[u8], from: usize, to: usize) -> Sums
+    requires { ⌜ (from ≤ to) × (from ≤ length (now held)) × (to ≤ length (now held) + length (now chunk)) ⌝ }
+    ensures { λ r. ⌜ r ≡ sums (take (to - from) (drop from (now (held .entry) ++ now (chunk .entry)))) ⌝ }
+{
+    let h = held.len();
+    if to <= h {
+        return Sums::new().over(&held[from..to]);
+    }
+    let rest = to - h;
+    Sums::new().over(&held[from..]).over(&chunk[0..rest])
+}
+
+fn right_over(held: &[u8], chunk: &[u8], at: usize, n: usize) -> bool
+    requires { ⌜ (2 ≤ n) × (at ≤ length (now held)) × (at + n ≤ length (now held) + length (now chunk)) ⌝ }
+    ensures { λ r. ⌜ r ≡ sumsRight (take n (drop at (now (held .entry) ++ now (chunk .entry)))) ⌝ }
+{
+    let e = at + (n - 2);
+    let t = sums_over(held, chunk, at, e);
+    if byte_over(held, chunk, e) == t.f1 {
+        byte_over(held, chunk, e + 1) == t.f2
+    } else {
+        false
+    }
+}
+
+// What stands at the front of the bytes of `held` and then `chunk`, from `at` on.
+pub fn front_over(held: &[u8], chunk: &[u8], at: usize) -> Verdict
+    ensures { λ r. ⌜ r ≡ front (drop at (now (held .entry) ++ now (chunk .entry))) ⌝ }
+{
+    let h = held.len();
+    if h <= at {
+        return front_at(chunk, at - h);
+    }
+    let left = h + chunk.len() - at;
+    if held[at] != 0xA5 {
+        return Verdict::Skip;
+    }
+    if left < 2 {
+        return Verdict::Undecided;
+    }
+    if byte_over(held, chunk, at + 1) != 0xA5 {
+        return Verdict::Skip;
+    }
+    if left < 4 {
+        return Verdict::Undecided;
+    }
+    let n = size_from(byte_over(held, chunk, at + 3));
+    if left < n {
+        return Verdict::Undecided;
+    }
+    Verdict::Whole(n, right_over(held, chunk, at, n))
+}
+
+// Where the seek through `chunk` ends, as a place of some `before` bytes and then `chunk`.
+fn seek_after(before: usize, chunk: &[u8]) -> Sought
+    requires { ⌜ before + length (now chunk) < 18446744073709551616 ⌝ }
+    ensures { λ r. ⌜ r ≡ beyond before (seek front (now (chunk .entry))) ⌝ }
+{
+    match seek(chunk) {
+        Sought::Starved(k) => Sought::Starved(before + k),
+        Sought::Found(k, n, good) => Sought::Found(before + k, n, good),
+    }
+}
+
+// Where the seek through `held` and then `chunk` ends.
+pub fn seek_over(held: &[u8], chunk: &[u8]) -> Sought
+    ensures { λ r. ⌜ r ≡ seek front (now (held .entry) ++ now (chunk .entry)) ⌝ }
+{
+    let h = held.len();
+    let mut at = 0;
+    while at < h {
+        match front_over(held, chunk, at) {
+            Verdict::Skip => {
+                at += 1;
+            }
+            Verdict::Undecided => {
+                return Sought::Starved(at);
+            }
+            Verdict::Whole(n, good) => {
+                return Sought::Found(at, n, good);
+            }
+        }
+    }
+    seek_after(h, chunk)
+}
+
+// The same where the held bytes are the first `held` of an array: all of it where it has fewer.
+pub fn seek_held(bytes: &[u8], held: usize, chunk: &[u8]) -> Sought
+    ensures { λ r. ⌜ r ≡ seek front (take held (now (bytes .entry)) ++ now (chunk .entry)) ⌝ }
+{
+    if bytes.len() < held {
+        return seek_over(bytes, chunk);
+    }
+    seek_over(&bytes[0..held], chunk)
+}

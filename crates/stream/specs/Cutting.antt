@@ -1,0 +1,59 @@
+-- What makes the cutting of a stream harmless, over any framing: the statements, proved in proofs/Cuts.antt.
+use mathlib.Core.Path.{_≡_}
+use mathlib.Core.Bool.{Bool, true, false}
+use mathlib.Core.List.{List, [], _∷_, _++_}
+use Prim.Native.Nat.{ℕ, zero, suc, _+_, _≤_}
+use lib.ListN.{length, drop}
+use Rattle.stream.specs.declared.Verdict.{Verdict}
+use Rattle.stream.specs.declared.Verdict.the-variants.{Skip, Undecided, Whole}
+use Rattle.stream.specs.declared.Sought.{Sought}
+use Rattle.stream.specs.declared.Sought.the-variants.{Starved, Found}
+use Rattle.stream.specs.Scan.{Message, messageAt, Event, skipped, reported, events}
+use Rattle.stream.specs.Seek.{beyond, seek, resume}
+
+-- k bytes skipped.
+abbrev pub skips : ℕ → List Event
+skips zero = []
+skips (suc k) = skipped ∷ skips k
+
+-- k bytes skipped, then a message.
+abbrev pub skipsThen : ℕ → Message → List Event
+skipsThen zero m = reported m ∷ []
+skipsThen (suc k) m = skipped ∷ skipsThen k m
+
+module _ (front : List ℕ → Verdict) (longest : ℕ) where
+  -- A seek that is starved behind k bytes: the scan skips them, whatever follows, and finds nothing in the rest, which is
+  -- at most `longest` bytes.
+  pub record StarvedAt (u : List ℕ) (k : ℕ) : Type 0 where
+    pub goes : (v : List ℕ) → events front (u ++ v) ≡ skips k ++ events front (drop k u ++ v)
+    pub ends : events front (drop k u) ≡ []
+    pub inside : k ≤ length u
+    pub few : length (drop k u) ≤ longest
+
+  -- Seek and scan agree: what is sought in u is what the scan does first, whatever follows u.
+  abbrev pub Agrees : List ℕ → Sought → Type 0
+  Agrees u (Starved k) = StarvedAt u k
+  Agrees u (Found k n good) =
+      (v : List ℕ) → events front (u ++ v) ≡ skipsThen k (messageAt n good (drop k u)) ++ events front (drop (resume k n good) u ++ v)
+
+  -- The sizes of a message that is found in u behind k bytes.
+  pub record Sized (u : List ℕ) (k n : ℕ) : Type 0 where
+    pub some : 1 ≤ n
+    pub most : n ≤ suc longest
+    pub inside : k + n ≤ length u
+
+  pub record Cutting : Type 0 where
+    -- The scan as document 01 words it, a line for each verdict.
+    pub scan-skip : (u : List ℕ) → 1 ≤ length u → front u ≡ Skip → events front u ≡ skipped ∷ events front (drop 1 u)
+    pub scan-undecided : (u : List ℕ) → front u ≡ Undecided → events front u ≡ []
+    pub scan-good : (u : List ℕ) (n : ℕ) → front u ≡ Whole n true → events front u ≡ reported (messageAt n true u) ∷ events front (drop n u)
+    pub scan-damaged : (u : List ℕ) (n : ℕ) → front u ≡ Whole n false → events front u ≡ reported (messageAt n false u) ∷ events front (drop 1 u)
+    -- Seek and scan agree.
+    pub agrees : (u : List ℕ) → Agrees u (seek front u)
+    -- A found message stays found when bytes are added.
+    pub found-stays : (u v : List ℕ) (k n : ℕ) (good : Bool) → seek front u ≡ Found k n good → seek front (u ++ v) ≡ Found k n good
+    -- A starved seek resumes: what was skipped need not be looked at again.
+    pub starved-resumes : (u v : List ℕ) (k : ℕ) → seek front u ≡ Starved k → seek front (u ++ v) ≡ beyond k (seek front (drop k u ++ v))
+    -- What was found can be found with its own bytes alone.
+    pub found-alone : (u v : List ℕ) (k n : ℕ) (good : Bool) → seek front (u ++ v) ≡ Found k n good → k + n ≤ length u → seek front u ≡ Found k n good
+    pub found-sized : (u : List ℕ) (k n : ℕ) (good : Bool) → seek front u ≡ Found k n good → Sized u k n

@@ -1,0 +1,4 @@
+pub mod Framing
+pub mod Scan
+pub mod Seek
+pub mod Cutting

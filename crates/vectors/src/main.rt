@@ -1,0 +1,45 @@
+// Reads a script of test vectors from standard input, runs each line through the library's calls, and prints the line
+// with what came of it.
+mod messages;
+mod output;
+mod scans;
+mod text;
+
+use output::Output;
+
+fn main() {
+    let mut script = io::large_buffer();
+    let n = io::read_full(0, &mut script);
+    if n == script.len() {
+        io::write_all(1, b"script too long\n");
+        return;
+    }
+    run(&script[..n]).flush();
+}
+
+fn run(script: &[u8]) -> Output {
+    let mut out = Output::new();
+    let mut at = 0;
+    while at < script.len() {
+        let e = text::find(script, b'\n', at);
+        out = run_line(&script[at..e], out).byte(b'\n');
+        at = e + 1;
+    }
+    out
+}
+
+// An empty line, and a remark after `#`, are only copied.
+fn run_line(line: &[u8], out: Output) -> Output {
+    let told = out.text(line);
+    if line.len() == 0 {
+        return told;
+    }
+    if line[0] == b'#' {
+        return told;
+    }
+    messages::outcome(
+        text::first_word(line),
+        text::other_words(line),
+        told.text(b": "),
+    )
+}
