@@ -8,13 +8,14 @@ use lib.Dec.{eqb}
 use lib.ListN.{length, List·getD-append}
 use Rattle.stream.specs.declared.Sought.{Sought}
 use Rattle.stream.specs.declared.Sought.the-variants.{Starved, Found}
+use Rattle.stream.specs.declared.Verdict.the-variants.{Whole}
 use Rattle.stream.specs.Framing.{Framing}
 use Rattle.stream.specs.Seek.{seek}
 use Rattle.stream.specs.Cutting.{Cutting, StarvedAt, Sized}
-use Rattle.stream.proofs.Framings.{Header, framing}
+use Rattle.stream.proofs.Framings.{Header, framing, IsWhole, is-whole}
 use Rattle.stream.proofs.Cuts.{cutting, starved-is}
 use Rattle.message.specs.Message.{lengthOf, sumsRight}
-use Rattle.message.specs.Front.{marked, opens, sizeOf, front, longest}
+use Rattle.message.specs.Front.{marked, opens, sizeOf, front, mostUndecided}
 use Rattle.message.specs.Theorems.{CuttingHarmless}
 
 -- Two bytes decide the opening,
@@ -36,15 +37,20 @@ opens-false (x ∷ y ∷ u) v e = e
 size-append : (u v : List ℕ) → 4 ≤ length u → sizeOf (u ++ v) ≡ sizeOf u
 size-append u v h = rw (List·getD-append u v 0 3 (omega arith))
 
-header : Header opens sizeOf 260 2 4
+pub header : Header opens sizeOf 260 2 4
 header = record { opens-append = opens-append; opens-false = opens-false; size-append = size-append; bounds = λ u. omega arith }
 
-pub ms-cip : Framing front longest 2
+pub ms-cip : Framing front mostUndecided 2
 unfolding front
 ms-cip = framing header sumsRight
 
+-- What a verdict of a whole message tells of the bytes.
+pub whole-told : (u : List ℕ) (n : ℕ) (good : Bool) → front u ≡ Whole n good → IsWhole header sumsRight u n good
+unfolding front
+whole-told = is-whole header sumsRight
+
 pub cutting-harmless : CuttingHarmless
-cutting-harmless = cutting ms-cip
+cutting-harmless = cutting front mostUndecided 2 ms-cip
 
 -- ---- where a seek ends is within the bytes
 

@@ -12,7 +12,7 @@ use borrow.Author.Tests.{ltb-false, eqb-true, eq-eqb}
 use Rattle.stream.specs.declared.Verdict.the-variants.{Whole}
 use Rattle.stream.specs.Scan.{reported, messageAt, events}
 use Rattle.message.specs.Fletcher.{sums}
-use Rattle.message.specs.Message.{summedBytes, withSums, messageOf, typeOf, lengthOf, payloadOf, sumsRight}
+use Rattle.message.specs.Message.{summedBytes, withSums, messageOf, typeOf, lengthOf, payloadOf, headed, sumsRight}
 use Rattle.message.specs.Front.{opens, sizeOf, front}
 use Rattle.message.specs.Whole.{wholeNumber}
 use Rattle.message.specs.Theorems.{RoundTrip, WrittenIsRead, ReadIsWritten}
@@ -108,7 +108,7 @@ written-is-read = round-trip
 
 -- ---- the other way
 
-both : (a b : Bool) → a && b ≡ true → (a ≡ true) × (b ≡ true)
+pub both : (a b : Bool) → a && b ≡ true → (a ≡ true) × (b ≡ true)
 both true true e = (refl, refl)
 both true false e = let z : _≡_ {A = ℕ} 0 1 = cc in absurd (omega arith)
 both false b e = let z : _≡_ {A = ℕ} 0 1 = cc in absurd (omega arith)
@@ -116,21 +116,21 @@ both false b e = let z : _≡_ {A = ℕ} 0 1 = cc in absurd (omega arith)
 -- What a whole message has passed.
 pub record Passed (m : List ℕ) : Type 0 where
   pub long : 6 ≤ length m
-  pub opened : opens m ≡ true
-  pub sized : length m ≡ sizeOf m
+  pub head : headed m ≡ true
+  pub sized : length m ≡ lengthOf m + 6
   pub right : sumsRight m ≡ true
 
 pub passed : (m : List ℕ) → wholeNumber m ≡ 0 → Passed m
 unfolding wholeNumber
-passed m e = go (ltb (length m) 6) refl (opens m) refl (eqb (length m) (sizeOf m)) refl (sumsRight m) refl
+passed m e = go (ltb (length m) 6) refl (headed m) refl (eqb (length m) (lengthOf m + 6)) refl (sumsRight m) refl
   where
-    go : (a : Bool) → ltb (length m) 6 ≡ a → (b : Bool) → opens m ≡ b → (c : Bool) → eqb (length m) (sizeOf m) ≡ c → (d : Bool) → sumsRight m ≡ d → Passed m
+    go : (a : Bool) → ltb (length m) 6 ≡ a → (b : Bool) → headed m ≡ b → (c : Bool) → eqb (length m) (lengthOf m + 6) ≡ c → (d : Bool) → sumsRight m ≡ d → Passed m
     go true p b q c r d s = let z : _≡_ {A = ℕ} 0 21 = cc in absurd (omega arith)
     go false p false q c r d s = let z : _≡_ {A = ℕ} 0 21 = cc in absurd (omega arith)
     go false p true q false r d s = let z : _≡_ {A = ℕ} 0 21 = cc in absurd (omega arith)
     go false p true q true r false s = let z : _≡_ {A = ℕ} 0 22 = cc in absurd (omega arith)
     go false p true q true r true s =
-        record { long = ltb-false (length m) 6 p; opened = q; sized = eqb-true (length m) (sizeOf m) r; right = s }
+        record { long = ltb-false (length m) 6 p; head = q; sized = eqb-true (length m) (lengthOf m + 6) r; right = s }
 
 -- A row with right sums is its first bytes with their sums behind them.
 sums-split : (m : List ℕ) → 2 ≤ length m → sumsRight m ≡ true → withSums (take (length m - 2) m) ≡ m
@@ -159,7 +159,7 @@ read-is-written m byte e = go m byte (passed m e)
     go (a ∷ b ∷ []) byte p = absurd (omega (arith, p .long))
     go (a ∷ b ∷ c ∷ []) byte p = absurd (omega (arith, p .long))
     go (a ∷ b ∷ c ∷ n ∷ rest) byte p =
-        let o = both (eqb a 0xA5) (eqb b 0xA5) (p .opened) in
+        let o = both (eqb a 0xA5) (eqb b 0xA5) (p .head) in
         let ea : a ≡ 0xA5 = eqb-true a 0xA5 (o .0) in
         let eb : b ≡ 0xA5 = eqb-true b 0xA5 (o .1) in
         let small : n % 256 ≡ n = omega arith in

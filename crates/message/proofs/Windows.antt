@@ -4,7 +4,7 @@ use native.Mathlib.Omega.{arith}
 use mathlib.Core.Path.{_≡_, refl, ap, _∙_, sym}
 use mathlib.Core.Bool.{Bool}
 use mathlib.Core.List.{List, [], _∷_, _++_}
-use lib.ListN.{length, take, drop, getD, length-drop, length-append, List·getD-append}
+use lib.ListN.{length, take, drop, getD, length-drop, length-append, List·getD-append, List·getD-eq-default}
 use lib.Seq.{getD-append-add, drop-append-add, drop-append-le, take-append-le, take-append-add, take-all, drop-append-seam}
 use Rattle.stream.specs.declared.Sought.{Sought}
 use Rattle.stream.specs.declared.Sought.the-variants.{Starved, Found}
@@ -26,6 +26,9 @@ module _ (held chunk : List ℕ) where
   byte-chunk i h =
       let k : length held + (i - length held) ≡ i = omega arith in
       rw k at (sym (getD-append-add held chunk (i - length held) 0))
+
+  pub byte-none : (i : ℕ) → length held ≤ i → length chunk ≤ i - length held → 0 ≡ getD (held ++ chunk) i 0
+  byte-none i h k = sym (List·getD-eq-default chunk 0 k) ∙ byte-chunk i h
 
   pub drop-chunk : (i : ℕ) → length held ≤ i → drop (i - length held) chunk ≡ drop i (held ++ chunk)
   drop-chunk i h =

@@ -1,10 +1,8 @@
 -- Document 01, "A message": a payload is a row of fields: code, size n, n data bytes.
 use mathlib.Core.Path.{_≡_}
-use mathlib.Core.Bool.{Bool, true, false}
 use mathlib.Core.List.{List, [], _∷_, _++_}
 use mathlib.Core.Option.{Option, none, some}
 use Prim.Native.Nat.{ℕ, zero, suc}
-use lib.Dec.{leb}
 use lib.ListN.{length, take}
 
 pub record Field : Type 0 where
@@ -21,25 +19,21 @@ rowBytes [] = []
 rowBytes (f ∷ fs) = fieldBytes f ++ rowBytes fs
 
 -- Each size is the number of the data bytes.
-abbrev pub Sized : List Field → Type 0
-Sized [] = Unit {0}
-Sized (f ∷ fs) = (f .size ≡ length (f .content)) × Sized fs
+abbrev pub SizesRight : List Field → Type 0
+SizesRight [] = Unit {0}
+SizesRight (f ∷ fs) = (f .size ≡ length (f .content)) × SizesRight fs
 
 abbrev pub consField : Field → Option (List Field) → Option (List Field)
 consField f none = none
 consField f (some fs) = some (f ∷ fs)
 
--- Is the field's data there?
-abbrev pub fieldsOn : Bool → Field → Option (List Field) → Option (List Field)
-fieldsOn false f rest = none
-fieldsOn true f rest = consField f rest
-
--- The fields of a payload after its first p bytes.
+-- The fields of a payload that first passes p bytes, which must be there.
 abbrev pub fieldsPast : ℕ → List ℕ → Option (List Field)
-fieldsPast p [] = some []
+fieldsPast zero [] = some []
+fieldsPast (suc p) [] = none
 fieldsPast (suc p) (b ∷ bs) = fieldsPast p bs
 fieldsPast zero (code ∷ []) = none
-fieldsPast zero (code ∷ n ∷ bs) = fieldsOn (leb n (length bs)) (record { code = code; size = n; content = take n bs }) (fieldsPast n bs)
+fieldsPast zero (code ∷ n ∷ bs) = consField (record { code = code; size = n; content = take n bs }) (fieldsPast n bs)
 
 -- The fields of a payload; none where fields do not fill it exactly.
 unfoldable pub fieldsOf : List ℕ → Option (List Field)

@@ -26,5 +26,5 @@ unfoldable pub front : List ℕ → Verdict
 front = frontBy opens sizeOf sumsRight
 
 -- An undecided front is at most so many bytes: one fewer than the longest message.
-abbrev pub longest : ℕ
-longest = 260
+abbrev pub mostUndecided : ℕ
+mostUndecided = 260

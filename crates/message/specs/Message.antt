@@ -29,6 +29,10 @@ lengthOf m = getD m 3 0 % 256
 abbrev pub payloadOf : List ℕ → List ℕ
 payloadOf m = take (lengthOf m) (drop 4 m)
 
+-- Do the bytes start with A5 A5?
+abbrev pub headed : List ℕ → Bool
+headed m = eqb (getD m 0 0) 0xA5 && eqb (getD m 1 0) 0xA5
+
 -- Are the last two bytes of a message the sums of those before them?
 unfoldable pub sumsRight : List ℕ → Bool
 sumsRight m =

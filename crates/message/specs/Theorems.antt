@@ -1,16 +1,16 @@
 -- What is proved of a message's definitions, beyond the contracts of the code. The proofs stand in proofs/.
 use mathlib.Core.Path.{_≡_}
-use mathlib.Core.Bool.{Bool, true}
+use mathlib.Core.Bool.{Bool, true, false}
 use mathlib.Core.List.{List, [], _∷_, _++_}
 use mathlib.Core.Option.{Option, some}
 use Prim.Native.Nat.{ℕ, _+_, _≤_, _<_}
-use lib.ListN.{length, getD}
+use lib.ListN.{length, getD, take}
 use Rattle.stream.specs.declared.Verdict.the-variants.{Whole}
-use Rattle.stream.specs.Scan.{reported, messageAt, events}
+use Rattle.stream.specs.Scan.{reported, events}
 use Rattle.stream.specs.Cutting.{Cutting}
-use Rattle.message.specs.Fields.{Field, Sized, rowBytes, fieldsOf}
+use Rattle.message.specs.Fields.{Field, SizesRight, rowBytes, fieldsOf}
 use Rattle.message.specs.Fletcher.{sums, totals, reduced}
-use Rattle.message.specs.Front.{front, longest}
+use Rattle.message.specs.Front.{front, mostUndecided}
 use Rattle.message.specs.Message.{messageOf, typeOf, payloadOf}
 use Rattle.message.specs.Whole.{wholeNumber}
 
@@ -23,9 +23,9 @@ pub record PingTable : Type 0 where
   pub row-4 : totals (0xA5 ∷ 0xA5 ∷ 0x01 ∷ 0x02 ∷ 0x02 ∷ []) ≡ record { t1 = 335; t2 = 1494 }
   pub final : messageOf 0x01 (0x02 ∷ 0x00 ∷ []) ≡ 0xA5 ∷ 0xA5 ∷ 0x01 ∷ 0x02 ∷ 0x02 ∷ 0x00 ∷ 0x4F ∷ 0x25 ∷ []
 
--- Cutting an MS CIP stream is harmless, and an undecided front is at most 260 bytes.
+-- Cutting an MS CIP stream is harmless. (Its field `undecided-short`: an undecided front is at most 260 bytes.)
 abbrev pub CuttingHarmless : Type 0
-CuttingHarmless = Cutting front longest
+CuttingHarmless = Cutting front mostUndecided
 
 -- What the plain writer writes, of any type and a payload of at most 255 bytes.
 pub record RoundTrip (kind : ℕ) (payload : List ℕ) : Type 0 where
@@ -45,13 +45,21 @@ pub record RoundTrip (kind : ℕ) (payload : List ℕ) : Type 0 where
 abbrev pub WrittenIsRead : Type 0
 WrittenIsRead = (kind : ℕ) (payload : List ℕ) → length payload ≤ 255 → RoundTrip kind payload
 
--- The other way: one whole message is what the plain writer writes of its type and payload. (L is a byte.)
+-- The other way: one whole good message is what the plain writer writes of its type and payload. (L is a byte.)
 abbrev pub ReadIsWritten : Type 0
 ReadIsWritten = (m : List ℕ) → getD m 3 0 < 256 → wholeNumber m ≡ 0 → messageOf (typeOf m) (payloadOf m) ≡ m
 
--- Fields that fill a payload are that payload's bytes, and fields written one after the other are read back.
+abbrev pub wholeOn : Bool → ℕ
+wholeOn true = 0
+wholeOn false = 22
+
+-- What the scan reports is one whole message, with right sums where it is good and wrong ones where it is damaged.
+abbrev pub ReportedIsWhole : Type 0
+ReportedIsWhole = (u : List ℕ) (n : ℕ) (good : Bool) → front u ≡ Whole n good → wholeNumber (take n u) ≡ wholeOn good
+
+-- The fields of a payload are those whose bytes, one field after the other, are the payload, and no others.
 abbrev pub FieldsFill : Type 0
-FieldsFill = (payload : List ℕ) (fs : List Field) → fieldsOf payload ≡ some fs → rowBytes fs ≡ payload
+FieldsFill = (payload : List ℕ) (fs : List Field) → fieldsOf payload ≡ some fs → (rowBytes fs ≡ payload) × SizesRight fs
 
 abbrev pub FieldsBack : Type 0
-FieldsBack = (fs : List Field) → Sized fs → fieldsOf (rowBytes fs) ≡ some fs
+FieldsBack = (fs : List Field) → SizesRight fs → fieldsOf (rowBytes fs) ≡ some fs

@@ -10,6 +10,7 @@ pub use fletcher::Sums;
 pub use front::front_at;
 pub use front::seek;
 pub use whole::check_message;
+pub use window::byte_over;
 pub use window::front_over;
 pub use window::seek_held;
 pub use window::seek_over;

@@ -14,15 +14,19 @@ use crate::front::size_from;
 use stream::Sought;
 use stream::Verdict;
 
-fn byte_over(held: &[u8], chunk: &[u8], i: usize) -> u8
-    requires { ⌜ i < length (now held) + length (now chunk) ⌝ }
+// Byte `i` of `held` and then `chunk`, 0 where there is none.
+pub fn byte_over(held: &[u8], chunk: &[u8], i: usize) -> u8
     ensures { λ r. ⌜ r ≡ getD (now (held .entry) ++ now (chunk .entry)) i 0 ⌝ }
 {
     let h = held.len();
-    if i < h { held[i] } else { chunk[i - h] }
+    if i < h {
+        return held[i];
+    }
+    let j = i - h;
+    if j < chunk.len() { chunk[j] } else { 0 }
 }
 
-// The sums of the bytes from..to, of which the first is held.
+// The sums of the bytes from..to, which begin among the held bytes or right behind them.
 fn sums_over(held: &[u8], chunk: &[u8], from: usize, to: usize) -> Sums
     requires { ⌜ (from ≤ to) × (from ≤ length (now held)) × (to ≤ length (now held) + length (now chunk)) ⌝ }
     ensures { λ r. ⌜ r ≡ sums (take (to - from) (drop from (now (held .entry) ++ now (chunk .entry)))) ⌝ }

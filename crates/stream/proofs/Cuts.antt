@@ -14,8 +14,9 @@ use Rattle.stream.specs.declared.Sought.the-variants.{Starved, Found}
 use Rattle.stream.specs.Framing.{Framing}
 use Rattle.stream.specs.Scan.{messageAt, Event, skipped, reported, eventsPast, events}
 use Rattle.stream.specs.Seek.{seekOn, seek, resume}
-use Rattle.stream.specs.Cutting.{skips, skipsThen, StarvedAt, Agrees, Sized, Cutting}
-use Rattle.stream.proofs.Seeks.{Seen, found-stays, found-seen, found-alone, starved-resumes}
+use Rattle.stream.specs.Cutting.{skips, skipsThen, StarvedAt, Agrees, Cutting, FramingCuts}
+use Rattle.stream.proofs.Rests.{continues}
+use Rattle.stream.proofs.Seeks.{found-stays, found-seen, found-alone, starved-resumes}
 
 resume-suc : (k n : ℕ) (good : Bool) → resume (suc k) n good ≡ suc (resume k n good)
 resume-suc k n true = suc-add k n
@@ -81,19 +82,24 @@ module _ {front : List ℕ → Verdict} {longest peek : ℕ} (F : Framing front 
   scan-damaged [] n e = let s = F .size [] n false e in absurd (omega arith)
   scan-damaged (x ∷ xs) n e = rw (append-nil xs) at (here x xs [] n false e)
 
-  pub cutting : Cutting front longest
-  cutting =
+  all : Cutting front longest
+  all =
       record {
         scan-skip = scan-skip;
         scan-undecided = scan-undecided;
         scan-good = scan-good;
         scan-damaged = scan-damaged;
+        undecided-short = F .short;
+        continues = continues F;
         agrees = agrees;
         found-stays = found-stays F;
         starved-resumes = starved-resumes F;
         found-alone = found-alone F;
         found-sized = λ u k n good e. found-seen F u k n good e .sized;
       }
+
+pub cutting : FramingCuts
+cutting front longest peek F = all F
 
 -- ---- What follows from seek and scan agreeing, by the seek's answer.
 module _ {front : List ℕ → Verdict} {longest : ℕ} (C : Cutting front longest) where

@@ -35,17 +35,22 @@ module _ {opens : List ℕ → Bool} {size : List ℕ → ℕ} {longest peek hea
       go true p false q = cc
       go false p c q = refl
 
-  record IsWhole (u : List ℕ) (n : ℕ) (good : Bool) : Type 0 where
-    opening : opens u ≡ true
-    verdict : opened u ≡ Whole n good
-    sized : n ≡ size u
-    inside : size u ≤ length u
+  -- What a verdict of a whole message tells of the bytes.
+  pub record IsWhole (u : List ℕ) (n : ℕ) (good : Bool) : Type 0 where
+    pub opening : opens u ≡ true
+    pub verdict : opened u ≡ Whole n good
+    pub sized : n ≡ size u
+    pub inside : size u ≤ length u
+    pub valid-is : good ≡ valid (take n u)
 
-  is-whole : (u : List ℕ) (n : ℕ) (good : Bool) → front u ≡ Whole n good → IsWhole u n good
+  pub is-whole : (u : List ℕ) (n : ℕ) (good : Bool) → front u ≡ Whole n good → IsWhole u n good
   is-whole u n good e = go (opens u) refl (leb (size u) (length u)) refl
     where
+      told : opens u ≡ true → leb (size u) (length u) ≡ true → good ≡ valid (take n u)
+      told p q = let k : n ≡ size u = cc in rw k (cc)
+
       go : (b : Bool) → opens u ≡ b → (c : Bool) → leb (size u) (length u) ≡ c → IsWhole u n good
-      go true p true q = record { opening = p; verdict = cc; sized = cc; inside = leb-true (size u) (length u) q }
+      go true p true q = record { opening = p; verdict = cc; sized = cc; inside = leb-true (size u) (length u) q; valid-is = told p q }
       go true p false q = let z : _≡_ {A = ℕ} 0 1 = cc in absurd (omega arith)
       go false p c q = let z : _≡_ {A = ℕ} 0 1 = cc in absurd (omega arith)
 

@@ -1,4 +1,5 @@
 pub mod Cuts
 pub mod Events
 pub mod Framings
+pub mod Rests
 pub mod Seeks

@@ -8,7 +8,8 @@ use Rattle.stream.specs.declared.Verdict.{Verdict}
 use Rattle.stream.specs.declared.Verdict.the-variants.{Skip, Undecided, Whole}
 use Rattle.stream.specs.declared.Sought.{Sought}
 use Rattle.stream.specs.declared.Sought.the-variants.{Starved, Found}
-use Rattle.stream.specs.Scan.{Message, messageAt, Event, skipped, reported, events}
+use Rattle.stream.specs.Framing.{Framing}
+use Rattle.stream.specs.Scan.{Message, messageAt, Event, skipped, reported, events, standing}
 use Rattle.stream.specs.Seek.{beyond, seek, resume}
 
 -- k bytes skipped.
@@ -36,6 +37,12 @@ module _ (front : List ℕ → Verdict) (longest : ℕ) where
   Agrees u (Found k n good) =
       (v : List ℕ) → events front (u ++ v) ≡ skipsThen k (messageAt n good (drop k u)) ++ events front (drop (resume k n good) u ++ v)
 
+  -- The scan of u, whatever follows it: its events, then the scan of what it leaves, which is at most `longest` bytes.
+  pub record Continues (u : List ℕ) : Type 0 where
+    pub goes : (v : List ℕ) → events front (u ++ v) ≡ events front u ++ events front (drop (standing (events front u)) u ++ v)
+    pub inside : standing (events front u) ≤ length u
+    pub few : length (drop (standing (events front u)) u) ≤ longest
+
   -- The sizes of a message that is found in u behind k bytes.
   pub record Sized (u : List ℕ) (k n : ℕ) : Type 0 where
     pub some : 1 ≤ n
@@ -48,6 +55,10 @@ module _ (front : List ℕ → Verdict) (longest : ℕ) where
     pub scan-undecided : (u : List ℕ) → front u ≡ Undecided → events front u ≡ []
     pub scan-good : (u : List ℕ) (n : ℕ) → front u ≡ Whole n true → events front u ≡ reported (messageAt n true u) ∷ events front (drop n u)
     pub scan-damaged : (u : List ℕ) (n : ℕ) → front u ≡ Whole n false → events front u ≡ reported (messageAt n false u) ∷ events front (drop 1 u)
+    -- An undecided front is short.
+    pub undecided-short : (u : List ℕ) → front u ≡ Undecided → length u ≤ longest
+    -- The scan of a stream that is cut goes on where it stood.
+    pub continues : (u : List ℕ) → Continues u
     -- Seek and scan agree.
     pub agrees : (u : List ℕ) → Agrees u (seek front u)
     -- A found message stays found when bytes are added.
@@ -57,3 +68,7 @@ module _ (front : List ℕ → Verdict) (longest : ℕ) where
     -- What was found can be found with its own bytes alone.
     pub found-alone : (u v : List ℕ) (k n : ℕ) (good : Bool) → seek front (u ++ v) ≡ Found k n good → k + n ≤ length u → seek front u ≡ Found k n good
     pub found-sized : (u : List ℕ) (k n : ℕ) (good : Bool) → seek front u ≡ Found k n good → Sized u k n
+
+-- Cutting is harmless for every framing that has the six laws.
+abbrev pub FramingCuts : Type 0
+FramingCuts = (front : List ℕ → Verdict) (longest peek : ℕ) → Framing front longest peek → Cutting front longest
