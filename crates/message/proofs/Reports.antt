@@ -9,19 +9,19 @@ use lib.ListN.{length, take, drop, getD}
 use lib.Seq.{getD-take, take-take, length-take-le}
 use borrow.Author.Tests.{eqb-true}
 use Rattle.stream.specs.declared.Verdict.the-variants.{Whole}
+use Rattle.stream.proofs.Bools.{and-both}
 use Rattle.stream.proofs.Framings.{IsWhole}
 use Rattle.message.specs.Message.{sumsRight}
 use Rattle.message.specs.Front.{opens, sizeOf, front}
 use Rattle.message.specs.Whole.{wholeNumber}
 use Rattle.message.specs.Theorems.{wholeOn, ReportedIsWhole}
 use Rattle.message.proofs.Framed.{header, whole-told}
-use Rattle.message.proofs.RoundTrips.{both}
 use Rattle.message.proofs.Wholes.{whole-right, whole-wrong}
 
 marks : (u : List ℕ) → 2 ≤ length u → opens u ≡ true → (getD u 0 0 ≡ 0xA5) × (getD u 1 0 ≡ 0xA5)
 marks [] l e = absurd (omega arith)
 marks (x ∷ []) l e = absurd (omega arith)
-marks (x ∷ y ∷ u) l e = let b = both (eqb x 0xA5) (eqb y 0xA5) e in (eqb-true x 0xA5 (b .0), eqb-true y 0xA5 (b .1))
+marks (x ∷ y ∷ u) l e = let b = and-both (eqb x 0xA5) (eqb y 0xA5) e in (eqb-true x 0xA5 (b .0), eqb-true y 0xA5 (b .1))
 
 pub reported-is-whole : ReportedIsWhole
 reported-is-whole u n good e = by good (t .valid-is)

@@ -11,6 +11,7 @@ use lib.Seq.{take-at, drop-at, getD-at, getD-append-add, take-length, length-tak
 use borrow.Author.Tests.{ltb-false, eqb-true, eq-eqb}
 use Rattle.stream.specs.declared.Verdict.the-variants.{Whole}
 use Rattle.stream.specs.Scan.{reported, messageAt, events}
+use Rattle.stream.proofs.Bools.{and-both}
 use Rattle.message.specs.Fletcher.{sums}
 use Rattle.message.specs.Message.{summedBytes, withSums, messageOf, typeOf, lengthOf, payloadOf, headed, sumsRight}
 use Rattle.message.specs.Front.{opens, sizeOf, front}
@@ -108,11 +109,6 @@ written-is-read = round-trip
 
 -- ---- the other way
 
-pub both : (a b : Bool) → a && b ≡ true → (a ≡ true) × (b ≡ true)
-both true true e = (refl, refl)
-both true false e = let z : _≡_ {A = ℕ} 0 1 = cc in absurd (omega arith)
-both false b e = let z : _≡_ {A = ℕ} 0 1 = cc in absurd (omega arith)
-
 -- What a whole message has passed.
 pub record Passed (m : List ℕ) : Type 0 where
   pub long : 6 ≤ length m
@@ -137,7 +133,7 @@ sums-split : (m : List ℕ) → 2 ≤ length m → sumsRight m ≡ true → with
 unfolding sumsRight
 sums-split m h e =
     let n : ℕ = length m - 2 in
-    let r = both (eqb (getD m n 0) (sums (take n m) .f1)) (eqb (getD m (n + 1) 0) (sums (take n m) .f2)) e in
+    let r = and-both (eqb (getD m n 0) (sums (take n m) .f1)) (eqb (getD m (n + 1) 0) (sums (take n m) .f2)) e in
     let x : getD m n 0 ≡ sums (take n m) .f1 = eqb-true (getD m n 0) (sums (take n m) .f1) (r .0) in
     let y : getD m (n + 1) 0 ≡ sums (take n m) .f2 = eqb-true (getD m (n + 1) 0) (sums (take n m) .f2) (r .1) in
     let d : drop n m ≡ getD m n 0 ∷ getD m (n + 1) 0 ∷ [] = last-two m n (omega arith) in
@@ -159,7 +155,7 @@ read-is-written m byte e = go m byte (passed m e)
     go (a ∷ b ∷ []) byte p = absurd (omega (arith, p .long))
     go (a ∷ b ∷ c ∷ []) byte p = absurd (omega (arith, p .long))
     go (a ∷ b ∷ c ∷ n ∷ rest) byte p =
-        let o = both (eqb a 0xA5) (eqb b 0xA5) (p .head) in
+        let o = and-both (eqb a 0xA5) (eqb b 0xA5) (p .head) in
         let ea : a ≡ 0xA5 = eqb-true a 0xA5 (o .0) in
         let eb : b ≡ 0xA5 = eqb-true b 0xA5 (o .1) in
         let small : n % 256 ≡ n = omega arith in

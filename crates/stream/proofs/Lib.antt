@@ -1,3 +1,4 @@
+pub mod Bools
 pub mod Cuts
 pub mod Events
 pub mod Framings

@@ -1,0 +1,82 @@
+-- What the tests of the definitions tell: both of two, rows that are the same, and the bounds of allowed values.
+use Prim.Native.Nat.{ℕ, _%_, _≤_, _<_}
+use native.Mathlib.Omega.{arith}
+use mathlib.Core.Path.{_≡_, refl, ap, sym, _∙_}
+use mathlib.Core.Bool.{Bool, true, false, _&&_}
+use mathlib.Core.List.{List, [], _∷_}
+use lib.Dec.{eqb, ltb}
+use lib.ListN.{length, getD}
+use borrow.Author.Tests.{eqb-true, eq-eqb, ltb-true}
+use Rattle.page.specs.declared.setting.Setting.{Setting}
+use Rattle.page.specs.declared.setting.Setting.the-variants.{Baud, Accelerometer, Gyroscope}
+use Rattle.page.specs.Settings.{someOf, allowedValues, allowed, valueBytes, valueSize}
+use Rattle.stream.proofs.Bools.{differ, and-both}
+use Rattle.word.specs.Word.{number, word, wordBytes}
+use Rattle.word.proofs.Numbers.{word-back, bytes-back}
+
+-- ---- values
+
+abbrev allBelow : ℕ → List ℕ → Bool
+allBelow n [] = true
+allBelow n (k ∷ ks) = ltb k n && allBelow n ks
+
+found-below : (n x : ℕ) (ks : List ℕ) → allBelow n ks ≡ true → someOf (eqb x) ks ≡ true → x < n
+found-below n x [] a e = differ (sym e)
+found-below n x (k ∷ ks) a e =
+    let b = and-both (ltb k n) (allBelow n ks) a in
+    go (eqb x k) refl (ltb-true k n (b .0)) (λ f. found-below n x ks (b .1) f)
+  where
+    go : (t : Bool) → eqb x k ≡ t → k < n → (someOf (eqb x) ks ≡ true → x < n) → x < n
+    go true p l rest = omega (arith, eqb-true x k p)
+    go false p l rest = rest (rw p at e)
+
+-- A setting's values are below this number.
+abbrev pub roof : Setting → ℕ
+roof Baud = 4294967296
+roof Accelerometer = 256
+roof Gyroscope = 256
+
+pub allowed-below : (s : Setting) (x : ℕ) → allowed s x ≡ true → x < roof s
+unfolding allowed
+allowed-below Baud x e = found-below 4294967296 x (allowedValues Baud) refl e
+allowed-below Accelerometer x e = found-below 256 x (allowedValues Accelerometer) refl e
+allowed-below Gyroscope x e = found-below 256 x (allowedValues Gyroscope) refl e
+
+-- The bytes of an allowed value are read back.
+pub value-back : (s : Setting) (x : ℕ) → allowed s x ≡ true → number (valueBytes s x) ≡ x
+value-back Baud x e = word-back x (allowed-below Baud x e)
+value-back Accelerometer x e = omega (arith, allowed-below Accelerometer x e)
+value-back Gyroscope x e = omega (arith, allowed-below Gyroscope x e)
+
+pub value-length : (s : Setting) (v : ℕ) → length (valueBytes s v) ≡ valueSize s
+value-length Baud v = refl
+value-length Accelerometer v = refl
+value-length Gyroscope v = refl
+
+pub size-small : (s : Setting) → valueSize s ≤ 4
+size-small Baud = omega arith
+size-small Accelerometer = omega arith
+size-small Gyroscope = omega arith
+
+one-written : (bs : List ℕ) → ((i : ℕ) → getD bs i 0 < 256) → length bs ≡ 1 → number bs % 256 ∷ [] ≡ bs
+one-written [] b l = absurd (omega arith)
+one-written (x ∷ []) b l =
+    let e : number (x ∷ []) % 256 ≡ x = omega (arith, b 0) in
+    rw e
+one-written (x ∷ y ∷ bs) b l = absurd (omega arith)
+
+-- The other way: bytes of a value's size are those of the number that they make.
+pub value-written : (s : Setting) (bs : List ℕ) → ((i : ℕ) → getD bs i 0 < 256) → length bs ≡ valueSize s → valueBytes s (number bs) ≡ bs
+value-written Baud bs b l = four bs b l
+  where
+    four : (bs : List ℕ) → ((i : ℕ) → getD bs i 0 < 256) → length bs ≡ 4 → wordBytes (number bs) ≡ bs
+    four [] b l = absurd (omega arith)
+    four (x ∷ []) b l = absurd (omega arith)
+    four (x ∷ y ∷ []) b l = absurd (omega arith)
+    four (x ∷ y ∷ z ∷ []) b l = absurd (omega arith)
+    four (x ∷ y ∷ z ∷ w ∷ []) b l =
+        let e : number (x ∷ y ∷ z ∷ w ∷ []) ≡ word x y z w = omega arith in
+        ap wordBytes e ∙ bytes-back x y z w (b 0) (b 1) (b 2) (b 3)
+    four (x ∷ y ∷ z ∷ w ∷ v ∷ bs) b l = absurd (omega arith)
+value-written Accelerometer bs b l = one-written bs b l
+value-written Gyroscope bs b l = one-written bs b l

@@ -1,0 +1,8 @@
+pub mod Accepts
+pub mod Answers
+pub mod Handles
+pub mod Keeps
+pub mod Loads
+pub mod Pages
+pub mod Subjects
+pub mod Tests

@@ -1,0 +1,50 @@
+-- `command::answer::settings_after` meets its contract, by the function.
+use Rattle.command.proofs.Answers.{factory-fits, after-use, after-load, after-none, after-factory}
+use borrow.Author.Needs.{needs}
+use Rattle.command.proofs.answer.settings_after.Statement.{statement}
+use Rattle.command.proofs.answer.settings_after.Tie as tie
+
+value-for-requires : tie.Need-value-for-requires
+value-for-requires c κs = search needs
+
+with-requires : tie.Need-with-requires
+with-requires c κs = search needs
+
+returns : tie.Need-returns
+returns c = search (after-use, needs)
+
+loaded-from-requires : tie.Need-loaded-from-requires
+loaded-from-requires c κs = search needs
+
+with-requires-2 : tie.Need-with-requires-2
+with-requires-2 c κs = search needs
+
+returns-2 : tie.Need-returns-2
+returns-2 c = search (after-load, needs)
+
+returns-3 : tie.Need-returns-3
+returns-3 c = search (after-none, needs)
+
+factory-value-requires : tie.Need-factory-value-requires
+factory-value-requires c κs = search needs
+
+with-requires-3 : tie.Need-with-requires-3
+with-requires-3 c κs = search (factory-fits, needs)
+
+returns-4 : tie.Need-returns-4
+returns-4 c = search (after-factory, needs)
+
+pub settings-after-spec : {M : Type 1} → statement M
+settings-after-spec =
+    tie.close
+    (tie.spec
+    value-for-requires
+    with-requires
+    returns
+    loaded-from-requires
+    with-requires-2
+    returns-2
+    returns-3
+    factory-value-requires
+    with-requires-3
+    returns-4)

@@ -1,0 +1,84 @@
+-- Document 01, "Handling one message": what an accepted command does.
+use mathlib.Core.Bool.{Bool, true, false}
+use mathlib.Core.List.{List, [], _∷_, _++_}
+use mathlib.Core.Option.{Option, none, some}
+use Prim.Native.Nat.{ℕ, zero, suc, _<_}
+use lib.ListN.{length}
+use Rattle.page.specs.declared.setting.Setting.{Setting}
+use Rattle.page.specs.declared.setting.Setting.the-variants.{Baud, Accelerometer, Gyroscope}
+use Rattle.page.specs.Settings.{codeOf, allowed, valueBytes, valueSize, factoryValue}
+use Rattle.message.specs.Message.{messageOf}
+use Rattle.command.specs.declared.settings.Settings.{Settings}
+use Rattle.command.specs.declared.command.Command.{Command}
+use Rattle.command.specs.declared.command.Subject.{Subject}
+use Rattle.command.specs.declared.command.Subject.the-variants.{Ping, Setting as About, Unknown}
+use Rattle.command.specs.Command.{valueFor, subjectOf}
+use Rattle.command.specs.Errors.{errorOf}
+
+-- ---- the working settings
+
+abbrev pub workingValue : Settings → Setting → ℕ
+workingValue w Baud = w .baud
+workingValue w Accelerometer = w .accelerometer
+workingValue w Gyroscope = w .gyroscope
+
+abbrev pub withWorking : Settings → Setting → ℕ → Settings
+withWorking w Baud x = record { baud = x; accelerometer = w .accelerometer; gyroscope = w .gyroscope }
+withWorking w Accelerometer x = record { baud = w .baud; accelerometer = x; gyroscope = w .gyroscope }
+withWorking w Gyroscope x = record { baud = w .baud; accelerometer = w .accelerometer; gyroscope = x }
+
+-- The value has as many bytes as the setting's values have.
+abbrev pub Fits : Setting → ℕ → Type 0
+Fits Baud x = x < 4294967296
+Fits Accelerometer x = x < 256
+Fits Gyroscope x = x < 256
+
+-- ---- one field
+
+-- What a field leaves: the settings, the setting whose working value is to be saved, and the row that it adds to the reply.
+pub record Effect : Type 0 where
+  pub settings : Settings
+  pub saves : Option Setting
+  pub row : List ℕ
+
+-- Leaves these settings, and neither saves nor reports.
+abbrev pub leaving : Settings → Effect
+leaving w = record { settings = w; saves = none; row = [] }
+
+-- code, value size, working value
+abbrev pub valueRow : Setting → ℕ → List ℕ
+valueRow s x = codeOf s ∷ valueSize s ∷ valueBytes s x
+
+-- The effect of a function number on a setting, where x is the value sent. `loaded s` is the page's value of s, from the
+-- factory page if it has no entry. (No command with a function below 1 or above 5 is accepted.)
+abbrev pub functionEffect : ℕ → (Setting → ℕ) → Settings → Setting → ℕ → Effect
+functionEffect zero loaded w s x = leaving w
+functionEffect (suc zero) loaded w s x = leaving (withWorking w s x)
+functionEffect (suc (suc zero)) loaded w s x = record { settings = w; saves = none; row = valueRow s (workingValue w s) }
+functionEffect (suc (suc (suc zero))) loaded w s x = record { settings = w; saves = some s; row = [] }
+functionEffect (suc (suc (suc (suc zero)))) loaded w s x = leaving (withWorking w s (loaded s))
+functionEffect (suc (suc (suc (suc (suc f))))) loaded w s x = leaving (withWorking w s (factoryValue s))
+
+abbrev pub fieldEffect : Subject → (Setting → ℕ) → Settings → Command → Effect
+fieldEffect Ping loaded w c = leaving w
+fieldEffect (About s) loaded w c = functionEffect (c .function) loaded w s (valueFor s c)
+fieldEffect Unknown loaded w c = leaving w
+
+-- ---- one message
+
+-- A command with an error changes nothing.
+abbrev pub effectOn : ℕ → Effect → Settings → Effect
+effectOn zero e w = e
+effectOn (suc n) e w = leaving w
+
+unfoldable pub effectOf : (Setting → ℕ) → Settings → Command → Effect
+effectOf loaded w c = effectOn (errorOf c) (fieldEffect (subjectOf (c .kind) (c .code)) loaded w c) w
+
+-- The reply's payload: one field 80 with size 2, echo and error; an accepted function 2 adds a second field. The echo is the
+-- first payload byte, or 0 if L = 0.
+abbrev pub replyPayload : Command → ℕ → List ℕ → List ℕ
+replyPayload c error row = 0x80 ∷ 0x02 ∷ c .code ∷ error ∷ row
+
+-- The reply has the received type.
+unfoldable pub replyOf : (Setting → ℕ) → Settings → Command → List ℕ
+replyOf loaded w c = messageOf (c .kind) (replyPayload c (errorOf c) (effectOf loaded w c .row))

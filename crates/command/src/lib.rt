@@ -1,0 +1,20 @@
+// One command handled: its errors, what it does to the settings and the page, and the reply. The definitions that the
+// contracts cite stand in specs/.
+mod answer;
+mod command;
+mod errors;
+mod handle;
+mod settings;
+
+pub use answer::Answer;
+pub use answer::answer_command;
+pub use command::Command;
+pub use command::Subject;
+pub use command::command_over;
+pub use command::subject_of;
+pub use errors::error_of;
+pub use handle::Handled;
+pub use handle::handle_message;
+pub use settings::Settings;
+pub use settings::settings_allowed;
+pub use settings::settings_from;

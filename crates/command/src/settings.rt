@@ -1,0 +1,105 @@
+// The working settings of the board.
+ghost use mathlib.Core.Path.{_≡_};
+ghost use Prim.Native.Nat.{_<_};
+ghost use lib.ListN.{getD};
+ghost use Rattle.command.specs.Answer.{loadedFrom, settingsFrom};
+ghost use Rattle.command.specs.Effects.{workingValue, withWorking, Fits};
+ghost use Rattle.command.specs.Handle.{settingsAllowed};
+use page::Setting;
+
+pub struct Settings {
+    pub baud: u32,
+    // the accelerometer's range
+    pub accelerometer: u8,
+    // the gyroscope's range
+    pub gyroscope: u8,
+}
+
+pub(crate) fn wide(x: u8) -> u32
+    ensures { λ r. ⌜ (r ≡ x) × (r < 256) ⌝ }
+{
+    x as u32
+}
+
+impl Settings {
+    pub fn value(self, setting: Setting) -> u32
+        ensures { λ r. ⌜ r ≡ workingValue self setting ⌝ }
+    {
+        match setting {
+            Setting::Baud => self.baud,
+            Setting::Accelerometer => wide(self.accelerometer),
+            Setting::Gyroscope => wide(self.gyroscope),
+        }
+    }
+
+    // The settings with one value more in use.
+    pub(crate) fn with(self, setting: Setting, value: u32) -> Self
+        requires { ⌜ Fits setting value ⌝ }
+        ensures { λ r. ⌜ r ≡ withWorking self setting value ⌝ }
+    {
+        match setting {
+            Setting::Baud => Settings {
+                baud: value,
+                accelerometer: self.accelerometer,
+                gyroscope: self.gyroscope,
+            },
+            Setting::Accelerometer => Settings {
+                baud: self.baud,
+                accelerometer: value as u8,
+                gyroscope: self.gyroscope,
+            },
+            Setting::Gyroscope => Settings {
+                baud: self.baud,
+                accelerometer: self.accelerometer,
+                gyroscope: value as u8,
+            },
+        }
+    }
+}
+
+// The first byte, 0 where there is none.
+fn first_byte(s: &[u8]) -> u8
+    ensures { λ r. ⌜ r ≡ getD (now (s .entry)) 0 0 ⌝ }
+{
+    if 0 < s.len() { s[0] } else { 0 }
+}
+
+// What is loaded of a setting: the body on the page if it has the entry, else the one on the factory page.
+pub(crate) fn loaded_from(page: &[u8], setting: Setting) -> u32
+    ensures { λ r. ⌜ (r ≡ loadedFrom (now (page .entry)) setting) × Fits setting r ⌝ }
+{
+    let factory = page::factory_page();
+    let body = page::body(page, &factory, page::code_of(setting));
+    match setting {
+        Setting::Baud => word::number_of(body),
+        Setting::Accelerometer => wide(first_byte(body)),
+        Setting::Gyroscope => wide(first_byte(body)),
+    }
+}
+
+// The settings as starting sets them.
+pub fn settings_from(page: &[u8]) -> Settings
+    ensures { λ r. ⌜ r ≡ settingsFrom (now (page .entry)) ⌝ }
+{
+    let baud = loaded_from(page, Setting::Baud);
+    let accelerometer = loaded_from(page, Setting::Accelerometer);
+    let gyroscope = loaded_from(page, Setting::Gyroscope);
+    Settings {
+        baud,
+        accelerometer: accelerometer as u8,
+        gyroscope: gyroscope as u8,
+    }
+}
+
+// Whether each working value is allowed.
+pub fn settings_allowed(w: Settings) -> bool
+    ensures { λ r. ⌜ r ≡ settingsAllowed w ⌝ }
+{
+    if !page::allowed(Setting::Baud, w.baud) {
+        return false;
+    }
+    if !page::allowed(Setting::Accelerometer, wide(w.accelerometer)) {
+        return false;
+    }
+    page::allowed(Setting::Gyroscope, wide(w.gyroscope))
+}

@@ -1,0 +1,6 @@
+pub mod Driven
+pub mod Shortest
+pub mod Tracks
+pub mod Demand
+pub mod Accounts
+pub mod Samples

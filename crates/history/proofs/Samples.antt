@@ -1,0 +1,67 @@
+-- One list of feeds, by the reckoning and by the program: on a small framing, in which a message is 5, a number n, n bytes, and
+-- a last byte that is 1 where the message is good.
+use mathlib.Core.Path.{_≡_, refl}
+use mathlib.Core.Bool.{true, false}
+use mathlib.Core.List.{List, [], _∷_}
+use Prim.Native.Nat.{ℕ, suc, _+_, _-_}
+use lib.Dec.{eqb}
+use lib.ListN.{length, getD}
+use Rattle.stream.specs.declared.Verdict.{Verdict}
+use Rattle.stream.specs.Framing.{frontBy}
+use Rattle.stream.specs.Scan.{Message, eventsPast}
+use Rattle.stream.specs.Seek.{seek}
+use Rattle.history.specs.Feeds.{Feed, Answer, run}
+use Rattle.history.specs.Reckoning.{Outcome, shortest, handleNext, usedUp, reckonFeed, reckonStep, reckoning}
+use Rattle.history.specs.Program.{passing, heldOn, heldFeed, heldStep, heldProgram}
+use Rattle.history.specs.Ports.{blank, historyOf}
+
+front : List ℕ → Verdict
+front = frontBy (λ u. eqb (getD u 0 0) 5) (λ u. getD u 1 0 + 3) (λ m. eqb (getD m (length m - 1) 0) 1)
+
+-- A handling that counts the messages, and replies with the message itself.
+count : ℕ → ℕ → Message → Outcome ℕ
+count p w m = record { reply = m .bytes; saved = m .good; next = suc w }
+
+-- A damaged message that holds a good one, with a byte before it; then the good one, of which nothing is taken any more; then
+-- the rest. Between them a port that is none, and a room that is too small.
+feeds : List Feed
+feeds =
+    record { port = 0; chunk = 9 ∷ 5 ∷ 3 ∷ 5 ∷ 0 ∷ 1 ∷ 0 ∷ 8 ∷ []; room = 1 }
+    ∷ record { port = 2; chunk = 8 ∷ []; room = 0 }
+    ∷ record { port = 0; chunk = 8 ∷ []; room = 1 }
+    ∷ record { port = 1; chunk = 8 ∷ []; room = 0 }
+    ∷ record { port = 0; chunk = 8 ∷ 5 ∷ []; room = 1 }
+    ∷ []
+
+damaged : Message
+damaged = record { good = false; bytes = 5 ∷ 3 ∷ 5 ∷ 0 ∷ 1 ∷ 0 ∷ [] }
+
+good : Message
+good = record { good = true; bytes = 5 ∷ 0 ∷ 1 ∷ [] }
+
+answers : List Answer
+answers =
+    record { number = 0; taken = 7; skipped = 2; saved = false; reply = damaged .bytes; reports = damaged ∷ [] }
+    ∷ record { number = 16; taken = 0; skipped = 0; saved = false; reply = []; reports = [] }
+    ∷ record { number = 0; taken = 0; skipped = 1; saved = true; reply = good .bytes; reports = good ∷ [] }
+    ∷ record { number = 18; taken = 0; skipped = 0; saved = false; reply = []; reports = [] }
+    ∷ record { number = 1; taken = 2; skipped = 2; saved = false; reply = []; reports = [] }
+    ∷ []
+
+reckoned : reckoning front count 1 0 feeds .answers ≡ answers
+unfolding front count feeds damaged good answers eventsPast run shortest handleNext usedUp reckonFeed reckonStep reckoning
+reckoned = refl
+
+programmed : heldProgram front count 258 1 (λ w. passing) 0 feeds .answers ≡ answers
+unfolding front count feeds damaged good answers seek run heldOn heldFeed heldStep heldProgram
+programmed = refl
+
+held : heldProgram front count 258 1 (λ w. passing) 0 feeds .final ≡ record { port0 = 5 ∷ []; port1 = []; values = 2 }
+unfolding front count feeds seek run heldOn heldFeed heldStep heldProgram
+held = refl
+
+-- 9 bytes taken are 3 of a good message, 5 skipped and 1 held.
+told : historyOf 0 blank feeds answers
+    ≡ record { bytes = 9 ∷ 5 ∷ 3 ∷ 5 ∷ 0 ∷ 1 ∷ 0 ∷ 8 ∷ 5 ∷ []; taken = 9; count = 2; skips = 5; reports = damaged ∷ good ∷ []; last = 1 }
+unfolding feeds damaged good answers historyOf
+told = refl

@@ -1,0 +1,5 @@
+pub mod Feeds
+pub mod Reckoning
+pub mod Program
+pub mod Ports
+pub mod Theorems

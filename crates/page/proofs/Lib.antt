@@ -1,0 +1,6 @@
+pub mod Drafts
+pub mod Lookups
+pub mod Pages
+pub mod Settings
+pub mod Sounds
+pub mod Stores

@@ -1,0 +1,6 @@
+pub mod Settings
+pub mod Draft
+pub mod Page
+pub mod Lookup
+pub mod Sound
+pub mod Theorems

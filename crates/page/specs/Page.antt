@@ -1,0 +1,84 @@
+-- Document 01, "The start-up page": the values that a page keeps, and the writing of them.
+use mathlib.Core.Bool.{Bool, true, false, _&&_}
+use mathlib.Core.List.{List, [], _∷_, _++_}
+use Prim.Native.Nat.{ℕ, _+_, _-_, _*_}
+use lib.ListN.{length, replicate}
+use Rattle.page.specs.declared.setting.Setting.{Setting}
+use Rattle.page.specs.declared.setting.Setting.the-variants.{Baud, Accelerometer, Gyroscope}
+use Rattle.page.specs.declared.setting.Stored.{Stored}
+use Rattle.page.specs.declared.setting.Stored.the-variants.{Absent, Value}
+use Rattle.page.specs.declared.setting.Values.{Values}
+use Rattle.page.specs.Settings.{codeOf, allowed, valueBytes, factoryValue}
+
+-- ---- values under codes
+
+abbrev pub storedIn : Values → Setting → Stored
+storedIn v Baud = v .baud
+storedIn v Accelerometer = v .accelerometer
+storedIn v Gyroscope = v .gyroscope
+
+-- The values with one put in, the others kept.
+abbrev pub withValue : Values → Setting → ℕ → Values
+withValue v Baud x = record { baud = Value x; accelerometer = v .accelerometer; gyroscope = v .gyroscope }
+withValue v Accelerometer x = record { baud = v .baud; accelerometer = Value x; gyroscope = v .gyroscope }
+withValue v Gyroscope x = record { baud = v .baud; accelerometer = v .accelerometer; gyroscope = Value x }
+
+abbrev pub noValues : Values
+noValues = record { baud = Absent; accelerometer = Absent; gyroscope = Absent }
+
+abbrev pub factoryValues : Values
+factoryValues = record { baud = Value (factoryValue Baud); accelerometer = Value (factoryValue Accelerometer); gyroscope = Value (factoryValue Gyroscope) }
+
+abbrev pub storedAllowed : Setting → Stored → Bool
+storedAllowed s Absent = true
+storedAllowed s (Value x) = allowed s x
+
+-- Each value that is there is allowed.
+unfoldable pub allAllowed : Values → Bool
+allAllowed v = storedAllowed Baud (v .baud) && storedAllowed Accelerometer (v .accelerometer) && storedAllowed Gyroscope (v .gyroscope)
+
+-- ---- the writing of values
+
+pub record Item : Type 0 where
+  pub code : ℕ
+  pub content : List ℕ
+
+abbrev pub itemOn : Setting → Stored → List Item → List Item
+itemOn s Absent items = items
+itemOn s (Value x) items = record { code = codeOf s; content = valueBytes s x } ∷ items
+
+-- The entries of a page with their bodies: codes ascend.
+abbrev pub itemsOf : Values → List Item
+itemsOf v = itemOn Baud (v .baud) (itemOn Accelerometer (v .accelerometer) (itemOn Gyroscope (v .gyroscope) []))
+
+-- For each entry code, offset, length, where the bodies start at an offset and stand close together.
+abbrev pub contentsFrom : ℕ → List Item → List ℕ
+contentsFrom offset [] = []
+contentsFrom offset (e ∷ es) = e .code ∷ offset ∷ length (e .content) ∷ contentsFrom (offset + length (e .content)) es
+
+-- The bodies in the same order.
+abbrev pub bodiesOf : List Item → List ℕ
+bodiesOf [] = []
+bodiesOf (e ∷ es) = e .content ++ bodiesOf es
+
+abbrev pub pageSize : ℕ
+pageSize = 64
+
+-- FF to the end.
+abbrev pub filled : List ℕ → List ℕ
+filled bs = bs ++ replicate (pageSize - length bs) 0xFF
+
+-- The number of entries, the contents, the bodies; blank with no entry.
+abbrev pub pageOf : List Item → List ℕ
+pageOf [] = filled []
+pageOf (e ∷ es) = filled (length (e ∷ es) ∷ contentsFrom (1 + 3 * length (e ∷ es)) (e ∷ es) ++ bodiesOf (e ∷ es))
+
+unfoldable pub writing : Values → List ℕ
+writing v = pageOf (itemsOf v)
+
+abbrev pub blankPage : List ℕ
+blankPage = filled []
+
+-- The factory page is the writing of the factory values.
+unfoldable pub factoryPage : List ℕ
+factoryPage = writing factoryValues

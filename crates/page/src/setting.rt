@@ -1,0 +1,138 @@
+// The settings of the board that commands alter and the page keeps.
+ghost use mathlib.Core.Path.{_≡_};
+ghost use mathlib.Core.Bool.{_&&_};
+ghost use lib.Dec.{leb};
+ghost use Rattle.page.specs.Settings.{codeOf, settingOf, allowed, valueSize, factoryValue};
+ghost use Rattle.page.specs.Page.{storedIn, withValue};
+
+pub enum Setting {
+    Baud,
+    // the accelerometer's range
+    Accelerometer,
+    // the gyroscope's range
+    Gyroscope,
+}
+
+// What a code stands for.
+pub enum Coded {
+    Setting(Setting),
+    Nothing,
+}
+
+// The value of a setting on the page, if it has one.
+pub enum Stored {
+    Absent,
+    Value(u32),
+}
+
+// The values that a page keeps.
+pub struct Values {
+    pub baud: Stored,
+    pub accelerometer: Stored,
+    pub gyroscope: Stored,
+}
+
+pub fn setting_of(code: u8) -> Coded
+    ensures { λ r. ⌜ r ≡ settingOf code ⌝ }
+{
+    match code {
+        0x01 => Coded::Setting(Setting::Baud),
+        0x07 => Coded::Setting(Setting::Accelerometer),
+        0x08 => Coded::Setting(Setting::Gyroscope),
+        _ => Coded::Nothing,
+    }
+}
+
+pub fn code_of(setting: Setting) -> u8
+    ensures { λ r. ⌜ r ≡ codeOf setting ⌝ }
+{
+    match setting {
+        Setting::Baud => 0x01,
+        Setting::Accelerometer => 0x07,
+        Setting::Gyroscope => 0x08,
+    }
+}
+
+fn baud_allowed(value: u32) -> bool
+    ensures { λ r. ⌜ r ≡ allowed Setting.Baud value ⌝ }
+{
+    match value {
+        9600 | 19200 | 115200 | 230400 | 460800 | 921600 => true,
+        _ => false,
+    }
+}
+
+fn between(first: u32, value: u32, last: u32) -> bool
+    ensures { λ r. ⌜ r ≡ leb first value && leb value last ⌝ }
+{
+    if first <= value { value <= last } else { false }
+}
+
+// Whether the board takes this value for this setting.
+pub fn allowed(setting: Setting, value: u32) -> bool
+    ensures { λ r. ⌜ r ≡ allowed setting value ⌝ }
+{
+    match setting {
+        Setting::Baud => baud_allowed(value),
+        Setting::Accelerometer => between(1, value, 4),
+        Setting::Gyroscope => between(1, value, 7),
+    }
+}
+
+// The number of bytes of a value.
+pub fn value_size(setting: Setting) -> usize
+    ensures { λ r. ⌜ r ≡ valueSize setting ⌝ }
+{
+    match setting {
+        Setting::Baud => 4,
+        Setting::Accelerometer => 1,
+        Setting::Gyroscope => 1,
+    }
+}
+
+pub fn factory_value(setting: Setting) -> u32
+    ensures { λ r. ⌜ r ≡ factoryValue setting ⌝ }
+{
+    match setting {
+        Setting::Baud => 115200,
+        Setting::Accelerometer => 0x02,
+        Setting::Gyroscope => 0x03,
+    }
+}
+
+pub fn stored_in(values: Values, setting: Setting) -> Stored
+    ensures { λ r. ⌜ r ≡ storedIn values setting ⌝ }
+{
+    match setting {
+        Setting::Baud => values.baud,
+        Setting::Accelerometer => values.accelerometer,
+        Setting::Gyroscope => values.gyroscope,
+    }
+}
+
+// The values with one put in, the others kept.
+pub fn with_value(values: Values, setting: Setting, value: u32) -> Values
+    ensures { λ r. ⌜ r ≡ withValue values setting value ⌝ }
+{
+    let baud = values.baud;
+    let accelerometer = values.accelerometer;
+    let gyroscope = values.gyroscope;
+    let stored = Stored::Value(value);
+    match setting {
+        Setting::Baud => Values {
+            baud: stored,
+            accelerometer,
+            gyroscope,
+        },
+        Setting::Accelerometer => Values {
+            baud,
+            accelerometer: stored,
+            gyroscope,
+        },
+        Setting::Gyroscope => Values {
+            baud,
+            accelerometer,
+            gyroscope: stored,
+        },
+    }
+}
