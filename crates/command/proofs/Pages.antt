@@ -49,7 +49,7 @@ loaded-stored page s h =
 
 -- ---- saving
 
-put-allowed : (v : Values) (s : Setting) (x : ℕ) → allAllowed v ≡ true → allowed s x ≡ true → allAllowed (withValue v s x) ≡ true
+pub put-allowed : (v : Values) (s : Setting) (x : ℕ) → allAllowed v ≡ true → allowed s x ≡ true → allAllowed (withValue v s x) ≡ true
 unfolding allAllowed
 put-allowed v s x e h = go s h
   where

@@ -63,6 +63,25 @@ module _ (front : List ℕ → Verdict) (w : List ℕ) (at : ℕ) (d : Verdict) 
       stop (x ∷ w) zero l j = rw j
       stop (x ∷ w) (suc at) l j = stop w at (omega arith) j
 
+-- What was found stands at its place.
+pub found-front : (front : List ℕ → Verdict) (u : List ℕ) (k n : ℕ) (good : Bool) → seek front u ≡ Found k n good → front (drop k u) ≡ Whole n good
+unfolding seek
+found-front front [] k n good h = let z : _≡_ {A = ℕ} 0 1 = cc in absurd (omega arith)
+found-front front (x ∷ xs) k n good h = go (front (x ∷ xs)) refl (seek front xs) refl (found-front front xs)
+  where
+    go : (d : Verdict) → front (x ∷ xs) ≡ d → (r : Sought) → seek front xs ≡ r
+        → ((k n : ℕ) (good : Bool) → seek front xs ≡ Found k n good → front (drop k xs) ≡ Whole n good) → front (drop k (x ∷ xs)) ≡ Whole n good
+    go Skip e (Starved k′) er ih = let z : _≡_ {A = ℕ} 0 1 = cc in absurd (omega arith)
+    go Skip e (Found k′ n′ good′) er ih =
+        let p : k ≡ suc k′ = cc in
+        let q : Whole n′ good′ ≡ Whole n good = cc in
+        rw p (ih k′ n′ good′ er ∙ q)
+    go Undecided e r er ih = let z : _≡_ {A = ℕ} 0 1 = cc in absurd (omega arith)
+    go (Whole n′ good′) e r er ih =
+        let p : k ≡ 0 = cc in
+        let q : Whole n′ good′ ≡ Whole n good = cc in
+        rw p (e ∙ q)
+
 -- ---- For bytes that come in.
 module _ {front : List ℕ → Verdict} {longest peek : ℕ} (F : Framing front longest peek) where
   pub found-stays : (u v : List ℕ) (k n : ℕ) (good : Bool) → seek front u ≡ Found k n good → seek front (u ++ v) ≡ Found k n good

@@ -1,0 +1,4 @@
+pub mod Follows
+pub mod Handles
+pub mod Large
+pub mod Steps

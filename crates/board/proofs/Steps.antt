@@ -1,0 +1,139 @@
+-- A feed of the board is a feed of the program that keeps only held bytes.
+use mathlib.Core.Bool.{Bool, true, false, _||_, not}
+use mathlib.Core.List.{List, [], _∷_, _++_}
+use mathlib.Core.Path.{_≡_, refl, sym, ap, _∙_}
+use Prim.Native.Nat.{ℕ, zero, suc, _+_, _-_, _≤_}
+use native.Mathlib.Omega.{arith}
+use lib.Dec.{eqb, ltb}
+use lib.ListN.{length, take, drop}
+use borrow.Author.Tests.{ltb-false}
+use Rattle.stream.specs.declared.Sought.{Sought}
+use Rattle.stream.specs.declared.Sought.the-variants.{Starved, Found}
+use Rattle.stream.specs.Scan.{Message, messageAt}
+use Rattle.stream.specs.Seek.{seek, resume, skippedBy}
+use Rattle.history.specs.Feeds.{Answer, Feed, Step, State, Turn, refused, settled, accept}
+use Rattle.history.specs.Feeds.{refuse as refuseStep, portOf as keptPort}
+use Rattle.history.specs.Program.{Tests, heldOn, heldFeed, heldStep}
+use Rattle.message.specs.Front.{front}
+use Rattle.page.specs.Page.{pageSize}
+use Rattle.page.specs.Sound.{sound, pageNumber}
+use Rattle.command.specs.declared.settings.Settings.{Settings}
+use Rattle.command.specs.Command.{commandOf}
+use Rattle.command.specs.Answer.{Answering, answering}
+use Rattle.command.specs.Handle.{settingsAllowed, replyRoom}
+use Rattle.command.proofs.Pages.{reply-whole}
+use Rattle.board.specs.declared.board.Board.{Board}
+use Rattle.board.specs.Port.{heldBytes, portHolding, portOf, withPort}
+use Rattle.board.specs.Feed.{Feeding, refuse, unsound, feedNumber, refusedFeeding, feedOn, acceptOn, feedOf}
+use Rattle.board.specs.Handling.{Kept, handleMessage, keptTests}
+use Rattle.board.specs.Runs.{Call, Told}
+use Rattle.board.proofs.Follows.{holding, found-own, found-taken}
+
+-- The board and its page, as that program keeps them.
+abbrev pub stateOf : Board → List ℕ → State (List ℕ) Kept
+stateOf b page = record { port0 = heldBytes (b .first); port1 = heldBytes (b .second); values = record { settings = b .settings; page = page } }
+
+-- The counts are those of the bytes that are held.
+pub record Counted (b : Board) : Type 0 where
+  pub first : b .first .held ≡ length (heldBytes (b .first))
+  pub second : b .second .held ≡ length (heldBytes (b .second))
+
+-- What a feed gives, against a step of that program.
+pub record Same (c : Call) (f : Feeding) (s : Step (State (List ℕ) Kept)) : Type 0 where
+  pub told : Told c f (s .answer)
+  pub state : s .state ≡ stateOf (f .answer .board) (f .page)
+  pub counted : Counted (f .answer .board)
+
+holding-counted : (bs : List ℕ) → portHolding bs .held ≡ length (heldBytes (portHolding bs))
+unfolding portHolding
+holding-counted bs = sym (ap length (holding bs))
+
+-- A port put in place of one of the two.
+with-counted : (port : ℕ) (b : Board) (bs : List ℕ) (w : Settings) → Counted b → Counted (withPort port b (portHolding bs) w)
+with-counted zero b bs w k = record { first = holding-counted bs; second = k .second }
+with-counted (suc p) b bs w k = record { first = k .first; second = holding-counted bs }
+
+-- ---- an accepted feed, by where the seek ends
+
+-- A call with a room of 16 bytes or more.
+module _ (b : Board) (page : List ℕ) (c : Call) (k : Counted b) (large : replyRoom ≤ length (c .room)) where
+  abbrev held : List ℕ
+  held = heldBytes (portOf (c .port) b)
+
+  abbrev turn : Sought → Turn (List ℕ) Kept
+  turn q = heldOn front handleMessage q (c .port) held (record { settings = b .settings; page = page }) (c .chunk)
+
+  -- The state after a turn is that of the board with the fed port anew.
+  state-after : (port : ℕ) (t : Turn (List ℕ) Kept) → settled port (stateOf b page) t ≡ stateOf (withPort port b (portHolding (t .port)) (t .values .settings)) (t .values .page)
+  state-after zero t = rw (holding (t .port))
+  state-after (suc p) t = rw (holding (t .port))
+
+  accepted : (q : Sought) → seek front (held ++ c .chunk) ≡ q
+      → Same c (feedOn q (c .port) b (c .chunk) (c .room) page) (accept (c .port) (stateOf b page) (turn q))
+  unfolding heldOn handleMessage answering
+  accepted (Starved i) e =
+      record {
+        told = record { number = refl; taken = refl; skipped = refl; saved = refl; room = refl };
+        state = state-after (c .port) (turn (Starved i));
+        counted = with-counted (c .port) b (drop i (held ++ c .chunk)) (b .settings) k;
+      }
+  accepted (Found i n good) e =
+      let visible : List ℕ = held ++ take (i + n - length held) (c .chunk) in
+      let same : commandOf good (drop i visible) ≡ commandOf good (take n (drop i visible)) =
+      found-own visible i n good (found-taken held (c .chunk) i n good e) in
+      let r = reply-whole (commandOf good (take n (drop i visible))) (b .settings) (c .room) page large in
+      rw same
+      (record {
+        told = record { number = refl; taken = refl; skipped = refl; saved = refl; room = r .room-after };
+        state = state-after (c .port) (turn (Found i n good));
+        counted = with-counted (c .port) b (drop (resume i n good) visible) _ k;
+      })
+
+-- ---- any feed
+
+abbrev pub feedFrom : Call → Feed
+feedFrom c = record { port = c .port; chunk = c .chunk; room = length (c .room) }
+
+-- That program's step, where its five tests come out so.
+abbrev stepOn : Bool → Bool → Bool → Bool → Bool → Board → List ℕ → Call → Step (State (List ℕ) Kept)
+stepOn a u r d e b page c =
+    let s : State (List ℕ) Kept = stateOf b page in
+    refuseStep a 16 s
+    (refuseStep u 17 s
+    (refuseStep r 18 s
+    (refuseStep d 19 s
+    (refuseStep e 20 s
+    (accept (c .port) s (heldFeed front handleMessage (c .port) (heldBytes (portOf (c .port) b)) (record { settings = b .settings; page = page }) (c .chunk)))))))
+
+port-held : (port : ℕ) (b : Board) (page : List ℕ) → keptPort port (stateOf b page) ≡ heldBytes (portOf port b)
+port-held zero b page = refl
+port-held (suc p) b page = refl
+
+module _ (b : Board) (page : List ℕ) (c : Call) (k : Counted b) where
+  refused-same : (n : ℕ) → Same c (refusedFeeding n b (c .room) page) (record { answer = refused n; state = stateOf b page })
+  refused-same n = record { told = record { number = refl; taken = refl; skipped = refl; saved = refl; room = refl }; state = refl; counted = k }
+
+  on-tests : (a u r d e : Bool) → ltb (length (c .room)) replyRoom ≡ r
+      → Same c (acceptOn (refuse a 16 (refuse u 17 (refuse r 18 (refuse d 19 (refuse e 20 0))))) (c .port) b (c .chunk) (c .room) page) (stepOn a u r d e b page c)
+  unfolding heldFeed
+  on-tests true u r d e h = refused-same 16
+  on-tests false true r d e h = refused-same 17
+  on-tests false false true d e h = refused-same 18
+  on-tests false false false true e h = refused-same 19
+  on-tests false false false false true h = refused-same 20
+  on-tests false false false false false h =
+      accepted b page c k (ltb-false (length (c .room)) replyRoom h) (seek front (heldBytes (portOf (c .port) b) ++ c .chunk)) refl
+
+  unsound-is : unsound b ≡ ltb 260 (length (heldBytes (b .first))) || ltb 260 (length (heldBytes (b .second))) || not (settingsAllowed (b .settings))
+  unfolding unsound
+  unsound-is =
+      ap (λ (i : ℕ). ltb 260 i || ltb 260 (b .second .held) || not (settingsAllowed (b .settings))) (k .first)
+      ∙ ap (λ (i : ℕ). ltb 260 (length (heldBytes (b .first))) || ltb 260 i || not (settingsAllowed (b .settings))) (k .second)
+
+  -- A feed of the board gives what that program's step gives.
+  pub step-same : Same c (feedOf (c .port) b (c .chunk) (c .room) page) (heldStep front handleMessage 260 replyRoom keptTests (stateOf b page) (feedFrom c))
+  unfolding feedOf feedNumber pageNumber heldStep keptTests
+  step-same =
+      rw (unsound-is, port-held (c .port) b page)
+      (on-tests (ltb 1 (c .port)) (ltb 260 (length (heldBytes (b .first))) || ltb 260 (length (heldBytes (b .second))) || not (settingsAllowed (b .settings)))
+      (ltb (length (c .room)) replyRoom) (not (eqb (length page) pageSize)) (not (sound page)) refl)

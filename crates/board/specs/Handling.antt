@@ -1,0 +1,77 @@
+-- Document 01, "The plain reckoning": message n + 1 is handled on the values kept. Beside it, the same on the board's settings
+-- and page.
+use mathlib.Core.Bool.{Bool, true, not}
+use mathlib.Core.List.{List}
+use mathlib.Core.Option.{Option, none, some}
+use mathlib.Core.Path.{_≡_}
+use Prim.Native.Nat.{ℕ}
+use lib.Dec.{eqb}
+use lib.ListN.{length}
+use Rattle.stream.specs.Scan.{Message}
+use Rattle.history.specs.Reckoning.{Outcome}
+use Rattle.history.specs.Program.{Tests}
+use Rattle.page.specs.declared.setting.Setting.{Setting}
+use Rattle.page.specs.declared.setting.Values.{Values}
+use Rattle.page.specs.Settings.{factoryValue}
+use Rattle.page.specs.Page.{storedIn, withValue, allAllowed, writing, pageSize}
+use Rattle.page.specs.Sound.{sound}
+use Rattle.page.specs.Theorems.{valueOr}
+use Rattle.command.specs.declared.settings.Settings.{Settings}
+use Rattle.command.specs.declared.command.Command.{Command}
+use Rattle.command.specs.Command.{commandOf}
+use Rattle.command.specs.Effects.{workingValue, Effect, effectOf, replyOf}
+use Rattle.command.specs.Answer.{loadedFrom, isSave, pageAfter}
+use Rattle.command.specs.Handle.{settingsAllowed}
+
+-- ---- the reckoning
+
+-- The working values; and the page's values, one or none under each code.
+pub record Reckoned : Type 0 where
+  pub settings : Settings
+  pub values : Values
+
+-- What is loaded of a setting: the page's value, or the factory value where it has none.
+abbrev pub loadedOf : Values → Setting → ℕ
+loadedOf v s = valueOr (storedIn v s) (factoryValue s)
+
+-- A save puts its value in and keeps the others.
+abbrev pub valuesAfter : Option Setting → Settings → Values → Values
+valuesAfter none w v = v
+valuesAfter (some s) w v = withValue v s (workingValue w s)
+
+unfoldable pub reckonMessage : ℕ → Reckoned → Message → Outcome Reckoned
+reckonMessage port x m =
+    let c : Command = commandOf (m .good) (m .bytes) in
+    let e : Effect = effectOf (loadedOf (x .values)) (x .settings) c in
+    record {
+      reply = replyOf (loadedOf (x .values)) (x .settings) c;
+      saved = isSave (e .saves);
+      next = record { settings = e .settings; values = valuesAfter (e .saves) (x .settings) (x .values) };
+    }
+
+-- ---- the board
+
+pub record Kept : Type 0 where
+  pub settings : Settings
+  pub page : List ℕ
+
+unfoldable pub handleMessage : ℕ → Kept → Message → Outcome Kept
+handleMessage port x m =
+    let c : Command = commandOf (m .good) (m .bytes) in
+    let e : Effect = effectOf (loadedFrom (x .page)) (x .settings) c in
+    record {
+      reply = replyOf (loadedFrom (x .page)) (x .settings) c;
+      saved = isSave (e .saves);
+      next = record { settings = e .settings; page = pageAfter (e .saves) (x .settings) (x .page) };
+    }
+
+-- 17: a working value is not allowed; 19: the page is not 64 bytes; 20: it is neither blank nor sound.
+unfoldable pub keptTests : Kept → Tests
+keptTests x = record { disallowed = not (settingsAllowed (x .settings)); wrongLength = not (eqb (length (x .page)) pageSize); unsound = not (sound (x .page)) }
+
+-- "The page is the writing of its values, blank with none."
+pub record StoredAs (x : Reckoned) (y : Kept) : Type 0 where
+  pub settings : x .settings ≡ y .settings
+  pub page : y .page ≡ writing (x .values)
+  pub settings-allowed : settingsAllowed (x .settings) ≡ true
+  pub values-allowed : allAllowed (x .values) ≡ true

@@ -1,0 +1,6 @@
+pub mod Feed
+pub mod Handling
+pub mod Port
+pub mod Runs
+pub mod Start
+pub mod Theorems

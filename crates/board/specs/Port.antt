@@ -1,0 +1,33 @@
+-- Document 01, "The scan": a port holds at most 260 bytes of an undecided message or of bytes not yet looked at.
+use Prim.Native.Nat.{ℕ, zero, suc, _-_}
+use mathlib.Core.List.{List, _++_}
+use lib.ListN.{length, take, replicate}
+use Rattle.command.specs.declared.settings.Settings.{Settings}
+use Rattle.board.specs.declared.port.Port.{Port}
+use Rattle.board.specs.declared.board.Board.{Board}
+
+abbrev pub portRoom : ℕ
+portRoom = 260
+
+-- The bytes that a port holds.
+abbrev pub heldBytes : Port → List ℕ
+heldBytes p = take (p .held) (p .bytes)
+
+-- The port that holds these bytes: its room past them is zero.
+unfoldable pub portHolding : List ℕ → Port
+portHolding bs = record { bytes = bs ++ replicate (portRoom - length bs) 0; held = length bs }
+
+-- A fresh port holds nothing.
+abbrev pub freshPort : Port
+freshPort = record { bytes = replicate portRoom 0; held = 0 }
+
+-- ---- the two ports of a board, 0 and 1
+
+abbrev pub portOf : ℕ → Board → Port
+portOf zero b = b .first
+portOf (suc p) b = b .second
+
+-- The board with one port and the settings anew; the other port's record is as it came.
+abbrev pub withPort : ℕ → Board → Port → Settings → Board
+withPort zero b port w = record { first = port; second = b .second; settings = w }
+withPort (suc p) b port w = record { first = b .first; second = port; settings = w }

@@ -1,0 +1,28 @@
+// The board, and what starting and feeding answer.
+use crate::port::Port;
+use command::Settings;
+
+pub struct Board {
+    pub first: Port,
+    pub second: Port,
+    pub settings: Settings,
+}
+
+// What starting answers.
+pub struct Started {
+    // document 01's number
+    pub number: u8,
+    pub board: Board,
+}
+
+// What a feed answers.
+pub struct Fed {
+    // document 01's number
+    pub number: u8,
+    // bytes taken from the chunk, and bytes that the scan skipped
+    pub taken: usize,
+    pub skipped: usize,
+    // whether a save was accepted
+    pub saved: bool,
+    pub board: Board,
+}
