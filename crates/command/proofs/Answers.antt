@@ -62,8 +62,8 @@ saved-page page after s x n v u p q e = ap (λ (w : PageWriting). w .page) e ∙
 -- ---- the settings after a function
 
 module _ (f : ℕ) (loaded : Setting → ℕ) (w : Settings) (s : Setting) (x : ℕ) (r : Settings) where
-  pub after-use : f ≡ 1 → (y : ℕ) → y ≡ x → r ≡ withWorking w s y → r ≡ functionEffect f loaded w s x .settings
-  after-use e y p h = h ∙ rw (p, e)
+  pub after-use : f ≡ 1 → r ≡ withWorking w s x → r ≡ functionEffect f loaded w s x .settings
+  after-use e h = h ∙ rw e
 
   pub after-load : f ≡ 4 → (y : ℕ) → y ≡ loaded s → r ≡ withWorking w s y → r ≡ functionEffect f loaded w s x .settings
   after-load e y p h = h ∙ rw (p, e)
@@ -105,10 +105,10 @@ module _ (f : ℕ) (loaded : Setting → ℕ) (c : Command) (w : Settings) (s : 
         ≡ answerWith 0 (functionEffect f loaded w s x) c w room page
     obey-save e y p next q = rw (e, ← h, q, p)
 
-    pub obey-other : (f ≡ 2 → ⊥) → (f ≡ 3 → ⊥) → (r : Settings) → r ≡ functionEffect f loaded w s x .settings
+    pub obey-other : (f ≡ 2 → ⊥) → (f ≡ 3 → ⊥) → (sent : ℕ) → sent ≡ x → (r : Settings) → r ≡ functionEffect f loaded w s sent .settings
         → record { answer = record { error = 0; saved = false; length = a .length; settings = r }; room = after; page = page }
         ≡ answerWith 0 (functionEffect f loaded w s x) c w room page
-    obey-other n m r e = rw e (only f n m)
+    obey-other n m sent es r e = rw (e, es) (only f n m)
       where
         only : (f : ℕ) → (f ≡ 2 → ⊥) → (f ≡ 3 → ⊥)
             → record { answer = record { error = 0; saved = false; length = a .length; settings = functionEffect f loaded w s x .settings }; room = after; page = page }

@@ -10,7 +10,7 @@ ghost use Rattle.message.specs.Write.{plainWriting};
 ghost use Rattle.word.specs.Word.{wordBytes};
 ghost use Rattle.command.specs.Answer.{loadedFrom, answerWith, answering};
 ghost use Rattle.command.specs.Command.{valueFor};
-ghost use Rattle.command.specs.Effects.{workingValue, valueRow, functionEffect, replyPayload};
+ghost use Rattle.command.specs.Effects.{Fits, valueRow, functionEffect, replyPayload};
 use crate::command::Command;
 use crate::command::Subject;
 use crate::command::subject_of;
@@ -85,13 +85,13 @@ fn save(setting: Setting, value: u32, page: &mut [u8])
     page::write_page(page::with_value(values, setting, value), page);
 }
 
-// The settings after an accepted function: 1, 4 and 5 take a value, the others none.
-fn settings_after(c: Command, setting: Setting, w: Settings, page: &[u8]) -> Settings
-    ensures { λ r. ⌜ r ≡ functionEffect (c .function) (loadedFrom (now (page .entry))) w setting (valueFor setting c) .settings ⌝ }
+// The settings after an accepted function: 1 takes the value sent, 4 the loaded and 5 the factory's, the others none.
+fn settings_after(function: u8, setting: Setting, sent: u32, w: Settings, page: &[u8]) -> Settings
+    requires { ⌜ Fits setting sent ⌝ }
+    ensures { λ r. ⌜ r ≡ functionEffect function (loadedFrom (now (page .entry))) w setting sent .settings ⌝ }
 {
-    let function = c.function;
     if function == 1 {
-        return w.with(setting, value_for(setting, c));
+        return w.with(setting, sent);
     }
     if function == 4 {
         return w.with(setting, loaded_from(page, setting));
@@ -121,8 +121,10 @@ fn obey(c: Command, setting: Setting, w: Settings, room: &mut [u8], page: &mut [
     ensures { λ r. ⌜ record { answer = r; room = now (room .exit); page = now (page .exit) } ≡ answerWith 0 (functionEffect (c .function) (loadedFrom (now (page .entry))) w setting (valueFor setting c)) c w (now (room .entry)) (now (page .entry)) ⌝ }
 {
     let function = c.function;
+    let working = w.value(setting);
+    let sent = value_for(setting, c);
     if function == 2 {
-        let reply = write_report(c, setting, w.value(setting), room);
+        let reply = write_report(c, setting, working, room);
         return Answer {
             error: 0,
             saved: false,
@@ -132,7 +134,7 @@ fn obey(c: Command, setting: Setting, w: Settings, room: &mut [u8], page: &mut [
     }
     let reply = write_plain(c, 0, room);
     if function == 3 {
-        save(setting, w.value(setting), page);
+        save(setting, working, page);
         return Answer {
             error: 0,
             saved: true,
@@ -144,7 +146,7 @@ fn obey(c: Command, setting: Setting, w: Settings, room: &mut [u8], page: &mut [
         error: 0,
         saved: false,
         length: reply.length,
-        settings: settings_after(c, setting, w, page),
+        settings: settings_after(function, setting, sent, w, page),
     }
 }
 

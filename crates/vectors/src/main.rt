@@ -1,10 +1,15 @@
 // Reads a script of test vectors from standard input, runs each line through the library's calls, and prints the line
 // with what came of it.
+mod boards;
+mod commands;
 mod messages;
 mod output;
+mod pages;
 mod scans;
 mod text;
 
+use boards::Board;
+use boards::Told;
 use output::Output;
 
 fn main() {
@@ -18,28 +23,33 @@ fn main() {
 }
 
 fn run(script: &[u8]) -> Output {
+    let mut board = Board::blank();
     let mut out = Output::new();
     let mut at = 0;
     while at < script.len() {
         let e = text::find(script, b'\n', at);
-        out = run_line(&script[at..e], out).byte(b'\n');
+        let told = run_line(&script[at..e], board, out);
+        let line = told.out;
+        board = told.board;
+        out = line.byte(b'\n');
         at = e + 1;
     }
     out
 }
 
 // An empty line, and a remark after `#`, are only copied.
-fn run_line(line: &[u8], out: Output) -> Output {
+fn run_line(line: &[u8], board: Board, out: Output) -> Told {
     let told = out.text(line);
     if line.len() == 0 {
-        return told;
+        return Told { board, out: told };
     }
     if line[0] == b'#' {
-        return told;
+        return Told { board, out: told };
     }
-    messages::outcome(
+    boards::outcome(
         text::first_word(line),
         text::other_words(line),
+        board,
         told.text(b": "),
     )
 }

@@ -119,7 +119,7 @@ fn write_front(kind: u8, payload: &[u8], room: &mut [u8], n: usize) -> Written
     message::write_message(kind, payload, &mut room[0..n])
 }
 
-fn say_written(written: Written, room: &[u8], out: Output) -> Output {
+pub(crate) fn say_written(written: Written, room: &[u8], out: Output) -> Output {
     let length = written.length;
     let told = out.decimal(written.number as u64)
         .byte(b' ')

@@ -1,5 +1,6 @@
 // The verbs on unread bytes: front, seek, split, cut.
 ghost use Prim.Native.Nat.{_≤_};
+use crate::commands;
 use crate::output::Output;
 use crate::text;
 use crate::text::MOST;
@@ -20,7 +21,7 @@ pub(crate) fn outcome(verb: &[u8], args: &[u8], out: Output) -> Output {
     if text::same(verb, b"cut") {
         return cut(args, out);
     }
-    out.text(b"unknown line")
+    commands::outcome(verb, args, out)
 }
 
 fn front(args: &[u8], out: Output) -> Output {
@@ -160,7 +161,7 @@ fn seeks_agree(s: &[u8], held: &[u8], chunk: &[u8]) -> bool {
 }
 
 // Copies nothing where `to` has no room for it.
-fn copy(from: &[u8], to: &mut [u8], at: usize) {
+pub(crate) fn copy(from: &[u8], to: &mut [u8], at: usize) {
     if to.len() < at {
         return;
     }

@@ -67,7 +67,7 @@ pub(crate) fn prefix(s: &[u8], n: usize) -> &[u8] {
     &s[0..n]
 }
 
-// A decimal number below 100,000.
+// A decimal number of at most ten digits, but for zeros in front.
 pub(crate) fn read_decimal(s: &[u8]) -> Number {
     if s.len() == 0 {
         return Number::Bad;
@@ -89,7 +89,7 @@ fn with_digit(value: usize, b: u8) -> Number {
     if d > 9 {
         return Number::Bad;
     }
-    if value > 9999 {
+    if value > 999_999_999 {
         return Number::Bad;
     }
     Number::Value(10 * value + d as usize)

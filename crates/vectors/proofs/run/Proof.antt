@@ -6,10 +6,13 @@ use Rattle.vectors.proofs.run.Statement.{statement}
 use Rattle.vectors.proofs.run.Tie as tie
 
 abbrev Inv-loop : tie.InvT-loop
-Inv-loop script out₀ at₀ out at = at ≤ length script + 1
+Inv-loop script board₀ out₀ at₀ board out at = at ≤ length script + 1
 
 abbrev μ-loop : tie.MeasureT-loop
-μ-loop script out₀ at₀ out at = (length script + 1) - at
+μ-loop script board₀ out₀ at₀ board out at = (length script + 1) - at
+
+blank-requires : tie.Need-blank-requires Inv-loop μ-loop
+blank-requires c κs = search needs
 
 new-requires : tie.Need-new-requires Inv-loop μ-loop
 new-requires c κs = search needs
@@ -53,6 +56,7 @@ run-spec =
     (tie.spec
     Inv-loop
     μ-loop
+    blank-requires
     new-requires
     loop-holds
     find-requires

@@ -7,6 +7,9 @@ use Rattle.command.proofs.answer.obey.Tie as tie
 value-requires : tie.Need-value-requires
 value-requires c κs = search needs
 
+value-for-requires : tie.Need-value-for-requires
+value-for-requires c κs = search needs
+
 write-report-requires : tie.Need-write-report-requires
 write-report-requires c κs = search needs
 
@@ -18,9 +21,6 @@ returns c = search (obey-report, needs)
 
 write-plain-requires : tie.Need-write-plain-requires
 write-plain-requires c κs = search needs
-
-value-requires-2 : tie.Need-value-requires-2
-value-requires-2 c κs = search needs
 
 save-requires : tie.Need-save-requires
 save-requires c κs = search needs
@@ -51,11 +51,11 @@ obey-spec =
     tie.close
     (tie.spec
     value-requires
+    value-for-requires
     write-report-requires
     same-length
     returns
     write-plain-requires
-    value-requires-2
     save-requires
     same-length-2
     same-length-3

@@ -4,9 +4,6 @@ use borrow.Author.Needs.{needs}
 use Rattle.command.proofs.answer.settings_after.Statement.{statement}
 use Rattle.command.proofs.answer.settings_after.Tie as tie
 
-value-for-requires : tie.Need-value-for-requires
-value-for-requires c κs = search needs
-
 with-requires : tie.Need-with-requires
 with-requires c κs = search needs
 
@@ -38,7 +35,6 @@ pub settings-after-spec : {M : Type 1} → statement M
 settings-after-spec =
     tie.close
     (tie.spec
-    value-for-requires
     with-requires
     returns
     loaded-from-requires

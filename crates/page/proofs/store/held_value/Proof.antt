@@ -1,6 +1,5 @@
 -- `page::store::held_value` meets its contract: no entry, a body of another size, and the value.
 use borrow.Author.Needs.{needs}
-use Rattle.word.proofs.number_of.Reads as number-of-reads
 use Rattle.page.proofs.Lookups.{held-no-entry, held-other-size, held-there}
 use Rattle.page.proofs.store.held_value.Statement.{statement}
 use Rattle.page.proofs.store.held_value.Tie as tie

@@ -1,0 +1,86 @@
+// The verbs on the controller's side: command, reply.
+ghost use Prim.Native.Nat.{_≤_};
+ghost use lib.ListN.{length};
+use crate::messages;
+use crate::output::Output;
+use crate::pages;
+use crate::text;
+use crate::text::MOST;
+use crate::text::Number;
+use crate::text::Octet;
+use client::Reply;
+use message::Written;
+use page::Stored;
+
+pub(crate) fn outcome(verb: &[u8], args: &[u8], out: Output) -> Output {
+    if text::same(verb, b"command") {
+        return command(args, out);
+    }
+    if text::same(verb, b"reply") {
+        return reply(args, out);
+    }
+    pages::outcome(verb, args, out)
+}
+
+fn command(args: &[u8], out: Output) -> Output {
+    let Octet::Value(code) = text::read_octet(text::first_word(args)) else {
+        return out.bad_line();
+    };
+    let others = text::other_words(args);
+    let Number::Value(function) = text::read_decimal(text::first_word(others)) else {
+        return out.bad_line();
+    };
+    if function > 255 {
+        return out.bad_line();
+    }
+    command_with(code, function as u8, text::other_words(others), out)
+}
+
+// The value and the room's length are still to be read.
+fn command_with(code: u8, function: u8, args: &[u8], out: Output) -> Output {
+    let Number::Value(value) = text::read_decimal(text::first_word(args)) else {
+        return out.bad_line();
+    };
+    if value > 0xFFFF_FFFF {
+        return out.bad_line();
+    }
+    let Number::Value(length) = text::read_decimal(text::other_words(args)) else {
+        return out.bad_line();
+    };
+    if length > MOST {
+        return out.bad_line();
+    }
+    let mut room = [0xEEu8; MOST];
+    let written = write_front(code, function, value as u32, &mut room, length);
+    messages::say_written(written, text::prefix(&room, length), out)
+}
+
+// Writes as if `room` ended after `n` bytes.
+fn write_front(code: u8, function: u8, value: u32, room: &mut [u8], n: usize) -> Written
+    requires { ⌜ n ≤ length (now room) ⌝ }
+{
+    client::write_command(code, function, value, &mut room[0..n])
+}
+
+fn reply(args: &[u8], out: Output) -> Output {
+    let mut room = [0u8; MOST];
+    let Number::Value(n) = text::read_bytes(args, &mut room) else {
+        return out.bad_line();
+    };
+    say_reply(client::read_reply(text::prefix(&room, n)), out)
+}
+
+fn say_reply(r: Reply, out: Output) -> Output {
+    let value = r.value;
+    let told = out.decimal(r.number as u64)
+        .text(b", type ")
+        .hex(r.kind)
+        .text(b", echo ")
+        .hex(r.echo)
+        .text(b", error ")
+        .decimal(r.error as u64);
+    match value {
+        Stored::Absent => told.text(b", no value"),
+        Stored::Value(x) => told.text(b", value ").decimal(x as u64),
+    }
+}
