@@ -30,10 +30,10 @@ use Rattle.command.proofs.Pages.{loaded-stored, page-changes, put-allowed}
 use Rattle.board.specs.Handling.{Reckoned, Kept, loadedOf, valuesAfter, reckonMessage, handleMessage, keptTests, StoredAs}
 
 -- What is loaded from the writing of values is what those values give.
-loaded-same : (v : Values) → allAllowed v ≡ true → loadedOf v ≡ loadedFrom (writing v)
+pub loaded-same : (v : Values) → allAllowed v ≡ true → loadedOf v ≡ loadedFrom (writing v)
 loaded-same v a = fun-ext (λ s. sym (loaded-stored (writing v) s (writing-sound v a) .value ∙ ap (λ (u : Values). valueOr (storedIn u s) (factoryValue s)) (read-back v a)))
 
-loaded-allowed : (v : Values) → allAllowed v ≡ true → (s : Setting) → allowed s (loadedOf v s) ≡ true
+pub loaded-allowed : (v : Values) → allAllowed v ≡ true → (s : Setting) → allowed s (loadedOf v s) ≡ true
 loaded-allowed v a s =
     ap (allowed s) (ap (λ (l : Setting → ℕ). l s) (loaded-same v a)) ∙ loaded-stored (writing v) s (writing-sound v a) .value-allowed
 

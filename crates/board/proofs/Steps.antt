@@ -22,6 +22,7 @@ use Rattle.command.specs.Command.{commandOf}
 use Rattle.command.specs.Answer.{Answering, answering}
 use Rattle.command.specs.Handle.{settingsAllowed, replyRoom}
 use Rattle.command.proofs.Pages.{reply-whole}
+use Rattle.board.specs.declared.port.Port.{Port}
 use Rattle.board.specs.declared.board.Board.{Board}
 use Rattle.board.specs.Port.{heldBytes, portHolding, portOf, withPort}
 use Rattle.board.specs.Feed.{Feeding, refuse, unsound, feedNumber, refusedFeeding, feedOn, acceptOn, feedOf}
@@ -33,30 +34,34 @@ use Rattle.board.proofs.Follows.{holding, found-own, found-taken}
 abbrev pub stateOf : Board → List ℕ → State (List ℕ) Kept
 stateOf b page = record { port0 = heldBytes (b .first); port1 = heldBytes (b .second); values = record { settings = b .settings; page = page } }
 
--- The counts are those of the bytes that are held.
-pub record Counted (b : Board) : Type 0 where
-  pub first : b .first .held ≡ length (heldBytes (b .first))
-  pub second : b .second .held ≡ length (heldBytes (b .second))
+-- Each port is that of its held bytes, with zeros past them.
+pub record Padded (b : Board) : Type 0 where
+  pub first : b .first ≡ portHolding (heldBytes (b .first))
+  pub second : b .second ≡ portHolding (heldBytes (b .second))
+
+-- So its count is that of the bytes.
+count-is : (p : Port) → p ≡ portHolding (heldBytes p) → p .held ≡ length (heldBytes p)
+unfolding portHolding
+count-is p e = ap (λ (q : Port). q .held) e
 
 -- What a feed gives, against a step of that program.
 pub record Same (c : Call) (f : Feeding) (s : Step (State (List ℕ) Kept)) : Type 0 where
   pub told : Told c f (s .answer)
   pub state : s .state ≡ stateOf (f .answer .board) (f .page)
-  pub counted : Counted (f .answer .board)
+  pub padded : Padded (f .answer .board)
 
-holding-counted : (bs : List ℕ) → portHolding bs .held ≡ length (heldBytes (portHolding bs))
-unfolding portHolding
-holding-counted bs = sym (ap length (holding bs))
+holding-padded : (bs : List ℕ) → portHolding bs ≡ portHolding (heldBytes (portHolding bs))
+holding-padded bs = ap portHolding (sym (holding bs))
 
 -- A port put in place of one of the two.
-with-counted : (port : ℕ) (b : Board) (bs : List ℕ) (w : Settings) → Counted b → Counted (withPort port b (portHolding bs) w)
-with-counted zero b bs w k = record { first = holding-counted bs; second = k .second }
-with-counted (suc p) b bs w k = record { first = k .first; second = holding-counted bs }
+with-padded : (port : ℕ) (b : Board) (bs : List ℕ) (w : Settings) → Padded b → Padded (withPort port b (portHolding bs) w)
+with-padded zero b bs w k = record { first = holding-padded bs; second = k .second }
+with-padded (suc p) b bs w k = record { first = k .first; second = holding-padded bs }
 
 -- ---- an accepted feed, by where the seek ends
 
 -- A call with a room of 16 bytes or more.
-module _ (b : Board) (page : List ℕ) (c : Call) (k : Counted b) (large : replyRoom ≤ length (c .room)) where
+module _ (b : Board) (page : List ℕ) (c : Call) (k : Padded b) (large : replyRoom ≤ length (c .room)) where
   abbrev held : List ℕ
   held = heldBytes (portOf (c .port) b)
 
@@ -75,7 +80,7 @@ module _ (b : Board) (page : List ℕ) (c : Call) (k : Counted b) (large : reply
       record {
         told = record { number = refl; taken = refl; skipped = refl; saved = refl; room = refl };
         state = state-after (c .port) (turn (Starved i));
-        counted = with-counted (c .port) b (drop i (held ++ c .chunk)) (b .settings) k;
+        padded = with-padded (c .port) b (drop i (held ++ c .chunk)) (b .settings) k;
       }
   accepted (Found i n good) e =
       let visible : List ℕ = held ++ take (i + n - length held) (c .chunk) in
@@ -86,7 +91,7 @@ module _ (b : Board) (page : List ℕ) (c : Call) (k : Counted b) (large : reply
       (record {
         told = record { number = refl; taken = refl; skipped = refl; saved = refl; room = r .room-after };
         state = state-after (c .port) (turn (Found i n good));
-        counted = with-counted (c .port) b (drop (resume i n good) visible) _ k;
+        padded = with-padded (c .port) b (drop (resume i n good) visible) _ k;
       })
 
 -- ---- any feed
@@ -109,9 +114,9 @@ port-held : (port : ℕ) (b : Board) (page : List ℕ) → keptPort port (stateO
 port-held zero b page = refl
 port-held (suc p) b page = refl
 
-module _ (b : Board) (page : List ℕ) (c : Call) (k : Counted b) where
+module _ (b : Board) (page : List ℕ) (c : Call) (k : Padded b) where
   refused-same : (n : ℕ) → Same c (refusedFeeding n b (c .room) page) (record { answer = refused n; state = stateOf b page })
-  refused-same n = record { told = record { number = refl; taken = refl; skipped = refl; saved = refl; room = refl }; state = refl; counted = k }
+  refused-same n = record { told = record { number = refl; taken = refl; skipped = refl; saved = refl; room = refl }; state = refl; padded = k }
 
   on-tests : (a u r d e : Bool) → ltb (length (c .room)) replyRoom ≡ r
       → Same c (acceptOn (refuse a 16 (refuse u 17 (refuse r 18 (refuse d 19 (refuse e 20 0))))) (c .port) b (c .chunk) (c .room) page) (stepOn a u r d e b page c)
@@ -127,8 +132,8 @@ module _ (b : Board) (page : List ℕ) (c : Call) (k : Counted b) where
   unsound-is : unsound b ≡ ltb 260 (length (heldBytes (b .first))) || ltb 260 (length (heldBytes (b .second))) || not (settingsAllowed (b .settings))
   unfolding unsound
   unsound-is =
-      ap (λ (i : ℕ). ltb 260 i || ltb 260 (b .second .held) || not (settingsAllowed (b .settings))) (k .first)
-      ∙ ap (λ (i : ℕ). ltb 260 (length (heldBytes (b .first))) || ltb 260 i || not (settingsAllowed (b .settings))) (k .second)
+      ap (λ (i : ℕ). ltb 260 i || ltb 260 (b .second .held) || not (settingsAllowed (b .settings))) (count-is (b .first) (k .first))
+      ∙ ap (λ (i : ℕ). ltb 260 (length (heldBytes (b .first))) || ltb 260 i || not (settingsAllowed (b .settings))) (count-is (b .second) (k .second))
 
   -- A feed of the board gives what that program's step gives.
   pub step-same : Same c (feedOf (c .port) b (c .chunk) (c .room) page) (heldStep front handleMessage 260 replyRoom keptTests (stateOf b page) (feedFrom c))

@@ -11,6 +11,7 @@ use Rattle.stream.specs.Scan.{Message}
 use Rattle.history.specs.Reckoning.{Outcome}
 use Rattle.history.specs.Program.{Tests}
 use Rattle.page.specs.declared.setting.Setting.{Setting}
+use Rattle.page.specs.declared.setting.Setting.the-variants.{Baud, Accelerometer, Gyroscope}
 use Rattle.page.specs.declared.setting.Values.{Values}
 use Rattle.page.specs.Settings.{factoryValue}
 use Rattle.page.specs.Page.{storedIn, withValue, allAllowed, writing, pageSize}
@@ -33,6 +34,10 @@ pub record Reckoned : Type 0 where
 -- What is loaded of a setting: the page's value, or the factory value where it has none.
 abbrev pub loadedOf : Values → Setting → ℕ
 loadedOf v s = valueOr (storedIn v s) (factoryValue s)
+
+-- The working values as starting sets them.
+abbrev pub settingsOf : Values → Settings
+settingsOf v = record { baud = loadedOf v Baud; accelerometer = loadedOf v Accelerometer; gyroscope = loadedOf v Gyroscope }
 
 -- A save puts its value in and keeps the others.
 abbrev pub valuesAfter : Option Setting → Settings → Values → Values
@@ -69,7 +74,8 @@ handleMessage port x m =
 unfoldable pub keptTests : Kept → Tests
 keptTests x = record { disallowed = not (settingsAllowed (x .settings)); wrongLength = not (eqb (length (x .page)) pageSize); unsound = not (sound (x .page)) }
 
--- "The page is the writing of its values, blank with none."
+-- The board's settings and page stand for the reckoning's values: "the page is the writing of its values, blank with none", and
+-- all values are allowed.
 pub record StoredAs (x : Reckoned) (y : Kept) : Type 0 where
   pub settings : x .settings ≡ y .settings
   pub page : y .page ≡ writing (x .values)

@@ -7,12 +7,13 @@ use Rattle.history.specs.Feeds.{Answer, Run, State}
 use Rattle.history.specs.Feeds.{Feed as FeedOf}
 use Rattle.history.specs.Reckoning.{Ledger, reckoning}
 use Rattle.message.specs.Front.{front}
-use Rattle.page.specs.Lookup.{valuesIn}
+use Rattle.page.specs.declared.setting.Values.{Values}
+use Rattle.page.specs.Page.{writing}
 use Rattle.command.specs.Handle.{replyRoom}
 use Rattle.board.specs.declared.board.Board.{Board}
 use Rattle.board.specs.declared.board.Fed.{Fed}
 use Rattle.board.specs.Feed.{Feeding, feedOf}
-use Rattle.board.specs.Handling.{Reckoned, reckonMessage}
+use Rattle.board.specs.Handling.{Reckoned, settingsOf, reckonMessage}
 use Rattle.board.specs.Start.{startOf}
 
 -- A feed of a list: any port number, any chunk, any room.
@@ -34,17 +35,18 @@ callsFrom b page (c ∷ cs) =
     let rest : Calls = callsFrom (f .answer .board) (f .page) cs in
     record { feedings = f ∷ rest .feedings; board = rest .board; page = rest .page }
 
--- From a start on the page.
-abbrev pub callsOn : List ℕ → List Call → Calls
-callsOn page cs = callsFrom (startOf page .board) page cs
+-- From a start on the page of these values.
+abbrev pub callsOn : Values → List Call → Calls
+callsOn v cs = callsFrom (startOf (writing v) .board) (writing v) cs
 
--- "The reckoning is given the page that starting got, then each feed's port, chunk and length of room."
+-- "The reckoning is given the page that starting got, then each feed's port, chunk and length of room, and nothing of the
+-- program's answers or records." It keeps that page's values.
 abbrev pub feedsOf : List Call → List FeedOf
 feedsOf [] = []
 feedsOf (c ∷ cs) = record { port = c .port; chunk = c .chunk; room = length (c .room) } ∷ feedsOf cs
 
-abbrev pub reckonedOn : List ℕ → List Call → Run (State Ledger Reckoned)
-reckonedOn page cs = reckoning front reckonMessage replyRoom (record { settings = startOf page .board .settings; values = valuesIn page }) (feedsOf cs)
+abbrev pub reckonedOn : Values → List Call → Run (State Ledger Reckoned)
+reckonedOn v cs = reckoning front reckonMessage replyRoom (record { settings = settingsOf v; values = v }) (feedsOf cs)
 
 -- A call gave what the reckoning answers: number, bytes taken, bytes skipped, save mark, and the reply from the front of its
 -- room, the rest of which is as it came.
@@ -55,7 +57,7 @@ pub record Told (c : Call) (f : Feeding) (a : Answer) : Type 0 where
   pub saved : f .answer .saved ≡ a .saved
   pub room : f .room ≡ a .reply ++ drop (length (a .reply)) (c .room)
 
--- Every call of a list did.
+-- Every call of a list did. (The settings, held bytes and page after each call are those at the end of the list up to it.)
 abbrev pub AllTold : List Call → List Feeding → List Answer → Type 0
 AllTold [] [] [] = Unit {0}
 AllTold [] [] (a ∷ as′) = ⊥

@@ -1,21 +1,39 @@
 -- What is proved of the board. The proofs stand in proofs/.
+use mathlib.Core.Bool.{true}
 use mathlib.Core.List.{List}
 use mathlib.Core.Path.{_≡_}
-use Prim.Native.Nat.{ℕ}
+use Prim.Native.Nat.{ℕ, _≤_}
+use lib.ListN.{length}
 use Rattle.history.specs.Reckoning.{heldOf}
-use Rattle.page.specs.Page.{writing}
+use Rattle.page.specs.declared.setting.Values.{Values}
+use Rattle.page.specs.Page.{allAllowed, writing}
+use Rattle.page.specs.Lookup.{valuesIn}
 use Rattle.page.specs.Sound.{pageNumber}
-use Rattle.board.specs.Port.{heldBytes}
-use Rattle.board.specs.Runs.{Call, Calls, callsOn, reckonedOn, AllTold}
+use Rattle.board.specs.Port.{portRoom, portHolding}
+use Rattle.board.specs.Start.{startOf}
+use Rattle.board.specs.Runs.{Call, callsFrom, callsOn, reckonedOn, AllTold}
 
--- Demand 3: from a start on a blank or sound page, whatever the list of feeds, every call gives the reckoning's answer and
--- reply, and at the end settings, held bytes of both ports and page are the reckoning's.
-pub record AsReckoned (page : List ℕ) (cs : List Call) : Type 0 where
-  pub told : AllTold cs (callsOn page cs .feedings) (reckonedOn page cs .answers)
-  pub settings : callsOn page cs .board .settings ≡ reckonedOn page cs .final .values .settings
-  pub held-first : heldBytes (callsOn page cs .board .first) ≡ heldOf (reckonedOn page cs .final .port0)
-  pub held-second : heldBytes (callsOn page cs .board .second) ≡ heldOf (reckonedOn page cs .final .port1)
-  pub page-written : callsOn page cs .page ≡ writing (reckonedOn page cs .final .values .values)
+-- From a start on the page of some values, whatever the list of feeds: starting is done; every call gives the reckoning's
+-- answer and reply; and at the end the settings, both ports and the page are the reckoning's. A port is that of its held bytes,
+-- at most 260, with zeros past them.
+pub record AsReckoned (v : Values) (cs : List Call) : Type 0 where
+  pub started : startOf (writing v) .number ≡ 0
+  pub told : AllTold cs (callsOn v cs .feedings) (reckonedOn v cs .answers)
+  pub settings : callsOn v cs .board .settings ≡ reckonedOn v cs .final .values .settings
+  pub first-port : callsOn v cs .board .first ≡ portHolding (heldOf (reckonedOn v cs .final .port0))
+  pub second-port : callsOn v cs .board .second ≡ portHolding (heldOf (reckonedOn v cs .final .port1))
+  pub first-few : length (heldOf (reckonedOn v cs .final .port0)) ≤ portRoom
+  pub second-few : length (heldOf (reckonedOn v cs .final .port1)) ≤ portRoom
+  pub page-written : callsOn v cs .page ≡ writing (reckonedOn v cs .final .values .values)
 
+-- Demand 3, over the values that a blank or sound page is the writing of.
 abbrev pub Demand3 : Type 0
-Demand3 = (page : List ℕ) (cs : List Call) → pageNumber page ≡ 0 → AsReckoned page cs
+Demand3 = (v : Values) (cs : List Call) → allAllowed v ≡ true → AsReckoned v cs
+
+-- Every page that starting accepts is the writing of such values, so that demand 3 is about every blank or sound page.
+pub record IsStart (page : List ℕ) : Type 0 where
+  pub allowed-values : allAllowed (valuesIn page) ≡ true
+  pub written : page ≡ writing (valuesIn page)
+
+abbrev pub EveryStart : Type 0
+EveryStart = (page : List ℕ) → pageNumber page ≡ 0 → IsStart page
