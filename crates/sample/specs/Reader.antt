@@ -34,7 +34,7 @@ sampleOn false false f place = Unknown (f .code) place
 unfoldable pub sampleOf : Field → ℕ → Sample
 sampleOf f place = sampleOn (eqb (f .code) 0x81) (eqb (f .code) 0x82) f place
 
--- This paper's number for each case: the field's code.
+-- The field's code in each case.
 abbrev pub codeOf : Sample → ℕ
 codeOf (Acceleration a) = 0x81
 codeOf (Rate a) = 0x82

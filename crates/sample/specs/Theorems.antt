@@ -3,13 +3,15 @@ use Prim.Native.Nat.{ℕ, _<_}
 use mathlib.Core.Path.{_≡_}
 use mathlib.Core.Bool.{Bool, true, false}
 use mathlib.Core.List.{List}
+use mathlib.Core.Option.{some}
 use lib.Dec.{T}
 use lib.Ieee.{Float, binary32, nanBits, isNan, fits}
-use lib.ListN.{length, getD}
+use lib.ListN.{length, getD, take, drop}
 use Rattle.sample.specs.declared.axes.Axes.{Axes}
 use Rattle.sample.specs.declared.reader.Sample.the-variants.{Acceleration, Rate, Unknown}
 use Rattle.sample.specs.Axes.{floatOf, keptOf, bitsOf, axesBytes, restored}
-use Rattle.sample.specs.Reader.{fieldRead, fieldData}
+use Rattle.message.specs.Fields.{Field}
+use Rattle.sample.specs.Reader.{sampleOf, codeOf, Found, readingOf, fieldRead, fieldData}
 use Rattle.sample.specs.Writer.{dataMessage}
 
 -- Bits to axis to bits is the identity on all 2^32 patterns.
@@ -29,6 +31,27 @@ pub record AxisBack (x : Float) (kept : ℕ) : Type 0 where
 
 abbrev pub AxesBack : Type 0
 AxesBack = (x : Float) (kept : ℕ) → Proper x kept → AxisBack x kept
+
+-- So a record of such axes is the one with its bits.
+pub record ProperAxes (a : Axes) : Type 0 where
+  pub x : Proper (a .x) (a .«x_nan»)
+  pub y : Proper (a .y) (a .«y_nan»)
+  pub z : Proper (a .z) (a .«z_nan»)
+
+abbrev pub RecordBack : Type 0
+RecordBack = (a : Axes) → ProperAxes a → restored a ≡ a
+
+-- The code of a field is kept in what it is read as.
+abbrev pub CodeKept : Type 0
+CodeKept = (f : Field) (place : ℕ) → codeOf (sampleOf f place) ≡ f .code
+
+-- The data bytes of field k are that part of the message which starts at its place and is as long as its size says.
+pub record PartOf (m : List ℕ) (f : Found) : Type 0 where
+  pub part : f .field .content ≡ take (f .field .size) (drop (f .place) m)
+  pub size : f .field .size ≡ length (f .field .content)
+
+abbrev pub PartOfMessage : Type 0
+PartOfMessage = (m : List ℕ) (k : ℕ) (f : Found) → readingOf m k .found ≡ some f → PartOf m f
 
 -- What is written is read back: both fields, bit for bit, and the parts; there is no third field. It is 34 bytes.
 pub record DataBack (a r : Axes) : Type 0 where
