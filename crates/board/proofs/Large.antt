@@ -2,7 +2,7 @@
 use mathlib.Core.Bool.{Bool, true, false, not}
 use mathlib.Core.List.{List, [], _∷_}
 use mathlib.Core.Path.{_≡_, refl, sym, ap, _∙_, subst}
-use Prim.Native.Nat.{ℕ, _≤_}
+use Prim.Native.Nat.{ℕ, zero, suc, _≤_}
 use native.Mathlib.Omega.{arith}
 use lib.Dec.{eqb}
 use lib.ListN.{length}
@@ -10,7 +10,9 @@ use Rattle.history.specs.Feeds.{Answer, Run, State, run}
 use Rattle.history.specs.Feeds.{Feed as FeedOf, portOf as keptPort}
 use Rattle.history.specs.Reckoning.{Ledger, heldOf, reckoning}
 use Rattle.history.specs.Program.{heldStep, heldProgram}
+use Rattle.history.specs.Ports.{blank, historyOf, PortAccount}
 use Rattle.history.specs.Theorems.{Matches}
+use Rattle.history.proofs.Accounts.{portAccounts}
 use Rattle.history.proofs.Demand.{demand3, heldFew}
 use Rattle.message.specs.Front.{front, mostUndecided}
 use Rattle.message.proofs.Framed.{cutting-harmless}
@@ -24,12 +26,12 @@ use Rattle.command.specs.Answer.{settingsFrom}
 use Rattle.command.specs.Handle.{settingsAllowed, replyRoom}
 use Rattle.board.specs.declared.board.Board.{Board}
 use Rattle.board.specs.declared.board.Started.{Started}
-use Rattle.board.specs.Port.{portRoom, heldBytes, portHolding}
+use Rattle.board.specs.Port.{portRoom, heldBytes, portHolding, portOf}
 use Rattle.board.specs.Start.{freshBoard, startOf}
 use Rattle.board.specs.Feed.{Feeding, feedOf}
 use Rattle.board.specs.Handling.{Reckoned, Kept, settingsOf, reckonMessage, handleMessage, keptTests, StoredAs}
 use Rattle.board.specs.Runs.{Call, Calls, callsFrom, callsOn, feedsOf, reckonedOn, AllTold}
-use Rattle.board.specs.Theorems.{AsReckoned, Demand3, IsStart, EveryStart}
+use Rattle.board.specs.Theorems.{AsReckoned, Demand3, IsStart, EveryStart, PortsAddUp}
 use Rattle.board.proofs.Handles.{loaded-same, loaded-allowed, handles}
 use Rattle.board.proofs.Steps.{stateOf, Padded, Same, feedFrom, step-same}
 
@@ -125,6 +127,29 @@ module _ (v : Values) (cs : List Call) (a : allAllowed v ≡ true) where
         second-few = rw (m .held1) at (few 1);
         page-written = ap (λ (s : State (List ℕ) Kept). s .values .page) (sym (f .final)) ∙ m .values .page;
       }
+
+  port-held : (port : ℕ) → keptPort port (program .final) ≡ heldBytes (portOf port (calls .board))
+  port-held port =
+      let f : Followed cs calls program = followed cs (freshBoard w) (writing v) (fresh-padded w) in
+      ap (keptPort port) (f .final) ∙ by-port port
+    where
+      by-port : (port : ℕ) → keptPort port (stateOf (calls .board) (calls .page)) ≡ heldBytes (portOf port (calls .board))
+      by-port zero = refl
+      by-port (suc p) = refl
+
+  account : (port : ℕ) → port ≤ 1 → PortAccount front mostUndecided (historyOf port blank (feedsOf cs) (program .answers)) (keptPort port (program .final))
+  unfolding heldProgram
+  account port h =
+      portAccounts front mostUndecided replyRoom StoredAs reckonMessage keptTests handleMessage cutting-harmless handles port
+      (record { settings = w; values = v }) (record { settings = w; page = writing v }) (feedsOf cs) h stored
+
+  added : (port : ℕ) → port ≤ 1 → PortAccount front mostUndecided (historyOf port blank (feedsOf cs) (reckoned .answers)) (heldBytes (portOf port (calls .board)))
+  added port h = rw (← matched .answers, ← port-held port) (account port h)
+
+pub ports-add-up : PortsAddUp
+ports-add-up v cs port a h =
+    let b : startOf (writing v) .board ≡ freshBoard (settingsOf v) = ap (λ (s : Started). s .board) (started v a) in
+    rw b (added v cs a port h)
 
 pub board-demand3 : Demand3
 board-demand3 v cs a =

@@ -5,13 +5,15 @@ use mathlib.Core.Path.{_≡_}
 use Prim.Native.Nat.{ℕ, _≤_}
 use lib.ListN.{length}
 use Rattle.history.specs.Reckoning.{heldOf}
+use Rattle.history.specs.Ports.{blank, historyOf, PortAccount}
+use Rattle.message.specs.Front.{front, mostUndecided}
 use Rattle.page.specs.declared.setting.Values.{Values}
 use Rattle.page.specs.Page.{allAllowed, writing}
 use Rattle.page.specs.Lookup.{valuesIn}
 use Rattle.page.specs.Sound.{pageNumber}
-use Rattle.board.specs.Port.{portRoom, portHolding}
+use Rattle.board.specs.Port.{portRoom, heldBytes, portHolding, portOf}
 use Rattle.board.specs.Start.{startOf}
-use Rattle.board.specs.Runs.{Call, callsFrom, callsOn, reckonedOn, AllTold}
+use Rattle.board.specs.Runs.{Call, callsOn, feedsOf, reckonedOn, AllTold}
 
 -- From a start on the page of some values, whatever the list of feeds: starting is done; every call gives the reckoning's
 -- answer and reply; and at the end the settings, both ports and the page are the reckoning's. A port is that of its held bytes,
@@ -37,3 +39,11 @@ pub record IsStart (page : List ℕ) : Type 0 where
 
 abbrev pub EveryStart : Type 0
 EveryStart = (page : List ℕ) → pageNumber page ≡ 0 → IsStart page
+
+-- What the answers to such a list say of one port: the sum law, bytes taken = lengths of its good messages + bytes the scan
+-- skipped + bytes held; and the messages reported are the first of those that the scan finds in all bytes that the port took,
+-- each once and in order, and all of them where its last accepted call answered 1.
+abbrev pub PortsAddUp : Type 0
+PortsAddUp =
+    (v : Values) (cs : List Call) (port : ℕ) → allAllowed v ≡ true → port ≤ 1
+    → PortAccount front mostUndecided (historyOf port blank (feedsOf cs) (reckonedOn v cs .answers)) (heldBytes (portOf port (callsOn v cs .board)))
