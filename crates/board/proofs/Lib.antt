@@ -1,4 +1,5 @@
 pub mod Follows
 pub mod Handles
 pub mod Large
+pub mod Sampled
 pub mod Steps

@@ -1,0 +1,24 @@
+-- The sample lines, computed.
+use mathlib.Core.Path.{_≡_, refl}
+use Rattle.stream.specs.Seek.{seek}
+use Rattle.message.specs.Message.{messageOf, sumsRight}
+use Rattle.message.specs.Front.{front}
+use Rattle.message.specs.Write.{plainWriting}
+use Rattle.page.specs.Settings.{settingOf, allowed}
+use Rattle.page.specs.Page.{allAllowed, writing, factoryPage}
+use Rattle.page.specs.Lookup.{entryFrom, entryOf, partOf, bodyOf, valuesIn}
+use Rattle.page.specs.Sound.{sound, pageNumber, pageWriting}
+use Rattle.command.specs.Command.{commandOf, subjectOf}
+use Rattle.command.specs.Errors.{fieldWrong, errorOf}
+use Rattle.command.specs.Effects.{effectOf}
+use Rattle.command.specs.Answer.{loadedFrom, settingsFrom, answering}
+use Rattle.command.specs.Handle.{settingsAllowed}
+use Rattle.board.specs.Port.{portHolding}
+use Rattle.board.specs.Start.{startOf}
+use Rattle.board.specs.Feed.{unsound, feedNumber, feedOf}
+use Rattle.board.specs.Runs.{callsFrom}
+use Rattle.board.specs.Samples.{SampleLines}
+
+pub sample-lines : SampleLines
+unfolding seek messageOf sumsRight front plainWriting settingOf allowed allAllowed writing factoryPage entryFrom entryOf partOf bodyOf valuesIn sound pageNumber pageWriting commandOf subjectOf fieldWrong errorOf effectOf loadedFrom settingsFrom answering settingsAllowed portHolding startOf unsound feedNumber feedOf callsFrom
+sample-lines = refl

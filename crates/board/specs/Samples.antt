@@ -1,0 +1,133 @@
+-- Document 01, "Sample lines": the P rows as a single table, with a single statement about what the rules give for it. Each
+-- starts on a fresh board with a blank page, port 0, and a room of 16 bytes.
+use mathlib.Core.Bool.{Bool, true, false}
+use mathlib.Core.List.{List, [], _∷_, _++_}
+use mathlib.Core.Path.{_≡_}
+use Prim.Native.Nat.{ℕ, zero, suc, _+_}
+use lib.ListN.{length, take, replicate}
+use Rattle.message.specs.Message.{lengthOf, messageOf}
+use Rattle.page.specs.Page.{noValues, filled}
+use Rattle.board.specs.Port.{heldBytes}
+use Rattle.board.specs.Feed.{Feeding}
+use Rattle.board.specs.Runs.{Call, Calls, callsOn}
+
+-- What one feed gives.
+pub record Out : Type 0 where
+  pub number : ℕ
+  pub taken : ℕ
+  pub skipped : ℕ
+  pub saved : Bool
+  pub reply : List ℕ
+
+-- A line: the chunks fed; what each feed gives; the bytes held and the page at the end.
+pub record Line : Type 0 where
+  pub chunks : List (List ℕ)
+  pub outs : List Out
+  pub held : List ℕ
+  pub page : List ℕ
+
+-- ---- the table
+
+abbrev done : ℕ → ℕ → List ℕ → Out
+done taken skipped reply = record { number = 0; taken = taken; skipped = skipped; saved = false; reply = reply }
+
+abbrev saves : ℕ → List ℕ → Out
+saves taken reply = record { number = 0; taken = taken; skipped = 0; saved = true; reply = reply }
+
+abbrev ends : ℕ → ℕ → Out
+ends taken skipped = record { number = 1; taken = taken; skipped = skipped; saved = false; reply = [] }
+
+abbrev blank : List ℕ
+blank = filled []
+
+-- A line of one feed that takes its chunk whole and leaves nothing held and the page blank.
+abbrev line : List ℕ → List ℕ → Line
+line chunk reply = record { chunks = chunk ∷ []; outs = done (length chunk) 0 reply ∷ []; held = []; page = blank }
+
+abbrev ping : List ℕ
+ping = 0xA5 ∷ 0xA5 ∷ 0x01 ∷ 0x02 ∷ 0x02 ∷ 0x00 ∷ 0x4F ∷ 0x25 ∷ []
+
+abbrev pinged : List ℕ
+pinged = 0xA5 ∷ 0xA5 ∷ 0x01 ∷ 0x04 ∷ 0x80 ∷ 0x02 ∷ 0x02 ∷ 0x00 ∷ 0xD3 ∷ 0xCF ∷ []
+
+-- A reply of type 02 without a value.
+abbrev answered : ℕ → ℕ → ℕ → ℕ → List ℕ
+answered echo error f1 f2 = 0xA5 ∷ 0xA5 ∷ 0x02 ∷ 0x04 ∷ 0x80 ∷ 0x02 ∷ echo ∷ error ∷ f1 ∷ f2 ∷ []
+
+abbrev p6 : List ℕ
+p6 = 0xA5 ∷ 0xA5 ∷ 0x01 ∷ 0x02 ∷ 0x02 ∷ 0x00 ∷ 0x4F ∷ 0x24 ∷ []
+
+abbrev pinged6 : List ℕ
+pinged6 = 0xA5 ∷ 0xA5 ∷ 0x01 ∷ 0x04 ∷ 0x80 ∷ 0x02 ∷ 0x02 ∷ 0x01 ∷ 0xD4 ∷ 0xD0 ∷ []
+
+-- Function 3 for a code.
+abbrev saveOf : ℕ → List ℕ
+saveOf code = messageOf 0x02 (code ∷ 0x01 ∷ 0x03 ∷ [])
+
+abbrev pub samples : List Line
+samples =
+    line ping pinged
+    ∷ line (0xA5 ∷ 0xA5 ∷ 0x02 ∷ 0x04 ∷ 0x07 ∷ 0x02 ∷ 0x01 ∷ 0x02 ∷ 0x5C ∷ 0xF1 ∷ []) (answered 0x07 0x00 0xD9 0xDF)
+    ∷ line (0xA5 ∷ 0xA5 ∷ 0x02 ∷ 0x07 ∷ 0x01 ∷ 0x05 ∷ 0x01 ∷ 0x00 ∷ 0x01 ∷ 0xC2 ∷ 0x00 ∷ 0x1D ∷ 0x84 ∷ []) (answered 0x01 0x00 0xD3 0xD3)
+    ∷ line (0xA5 ∷ 0xA5 ∷ 0x02 ∷ 0x03 ∷ 0x08 ∷ 0x01 ∷ 0x02 ∷ 0x5A ∷ 0x93 ∷ [])
+    (0xA5 ∷ 0xA5 ∷ 0x02 ∷ 0x07 ∷ 0x80 ∷ 0x02 ∷ 0x08 ∷ 0x00 ∷ 0x08 ∷ 0x01 ∷ 0x03 ∷ 0xE9 ∷ 0xA4 ∷ [])
+    ∷ line (0xA5 ∷ 0xA5 ∷ 0x01 ∷ 0x00 ∷ 0x4B ∷ 0x85 ∷ []) (0xA5 ∷ 0xA5 ∷ 0x01 ∷ 0x04 ∷ 0x80 ∷ 0x02 ∷ 0x00 ∷ 0x03 ∷ 0xD4 ∷ 0xCE ∷ [])
+    ∷ record { chunks = p6 ∷ []; outs = done 8 1 pinged6 ∷ []; held = 0xA5 ∷ 0x01 ∷ 0x02 ∷ 0x02 ∷ 0x00 ∷ 0x4F ∷ 0x24 ∷ []; page = blank }
+    ∷ record { chunks = p6 ∷ [] ∷ []; outs = done 8 1 pinged6 ∷ ends 0 7 ∷ []; held = []; page = blank }
+    ∷ record {
+      chunks = (0xA5 ∷ ping) ∷ (0x4F ∷ 0x25 ∷ []) ∷ [];
+      outs = done 7 1 (0xA5 ∷ 0xA5 ∷ 0xA5 ∷ 0x04 ∷ 0x80 ∷ 0x02 ∷ 0x02 ∷ 0x01 ∷ 0x78 ∷ 0xA8 ∷ []) ∷ done 2 0 pinged ∷ [];
+      held = [];
+      page = blank;
+    }
+    ∷ record {
+      chunks = (0xA5 ∷ 0xA5 ∷ 0x02 ∷ 0x03 ∷ 0x01 ∷ 0x01 ∷ 0x03 ∷ 0x54 ∷ 0x7F ∷ []) ∷ [];
+      outs = saves 9 (answered 0x01 0x00 0xD3 0xD3) ∷ [];
+      held = [];
+      page = (0x01 ∷ 0x01 ∷ 0x04 ∷ 0x04 ∷ 0x00 ∷ 0x01 ∷ 0xC2 ∷ 0x00 ∷ []) ++ replicate 56 0xFF;
+    }
+    ∷ line (0xA5 ∷ 0xA5 ∷ 0x02 ∷ 0x04 ∷ 0x08 ∷ 0x02 ∷ 0x01 ∷ 0x08 ∷ 0x63 ∷ 0xFB ∷ []) (answered 0x08 0x04 0xDE 0xE5)
+    ∷ line (0xA5 ∷ 0xA5 ∷ 0x03 ∷ 0x02 ∷ 0x02 ∷ 0x00 ∷ 0x51 ∷ 0x2D ∷ []) (0xA5 ∷ 0xA5 ∷ 0x03 ∷ 0x04 ∷ 0x80 ∷ 0x02 ∷ 0x02 ∷ 0x02 ∷ 0xD7 ∷ 0xDD ∷ [])
+    ∷ record { chunks = [] ∷ []; outs = ends 0 0 ∷ []; held = []; page = blank }
+    ∷ record {
+      chunks = saveOf 0x08 ∷ saveOf 0x07 ∷ saveOf 0x01 ∷ [];
+      outs = saves 9 (answered 0x08 0x00 0xDA 0xE1) ∷ saves 9 (answered 0x07 0x00 0xD9 0xDF) ∷ saves 9 (answered 0x01 0x00 0xD3 0xD3) ∷ [];
+      held = [];
+      page = (0x03 ∷ 0x01 ∷ 0x0A ∷ 0x04 ∷ 0x07 ∷ 0x0E ∷ 0x01 ∷ 0x08 ∷ 0x0F ∷ 0x01 ∷ 0x00 ∷ 0x01 ∷ 0xC2 ∷ 0x00 ∷ 0x02 ∷ 0x03 ∷ []) ++ replicate 48 0xFF;
+    }
+    ∷ []
+
+-- ---- what the rules give
+
+abbrev callsWith : List (List ℕ) → List Call
+callsWith [] = []
+callsWith (c ∷ cs) = record { port = 0; chunk = c; room = replicate 16 0 } ∷ callsWith cs
+
+-- The reply stands at the room's front.
+abbrev replyIn : ℕ → List ℕ → List ℕ
+replyIn zero room = take (lengthOf room + 6) room
+replyIn (suc n) room = []
+
+abbrev outsOf : List Feeding → List Out
+outsOf [] = []
+outsOf (f ∷ fs) =
+    record {
+      number = f .answer .number;
+      taken = f .answer .taken;
+      skipped = f .answer .skipped;
+      saved = f .answer .saved;
+      reply = replyIn (f .answer .number) (f .room);
+    } ∷ outsOf fs
+
+abbrev lineFor : List (List ℕ) → Line
+lineFor chunks =
+    let r : Calls = callsOn noValues (callsWith chunks) in
+    record { chunks = chunks; outs = outsOf (r .feedings); held = heldBytes (r .board .first); page = r .page }
+
+abbrev pub linesFor : List Line → List Line
+linesFor [] = []
+linesFor (l ∷ ls) = lineFor (l .chunks) ∷ linesFor ls
+
+-- The rules give for each line's chunks what the line says.
+abbrev pub SampleLines : Type 0
+SampleLines = linesFor samples ≡ samples
