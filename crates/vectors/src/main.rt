@@ -5,6 +5,7 @@ mod commands;
 mod messages;
 mod output;
 mod pages;
+mod samples;
 mod scans;
 mod text;
 

@@ -1,5 +1,6 @@
 // The verbs on the start-up page: page, body, pages.
 use crate::output::Output;
+use crate::samples;
 use crate::scans;
 use crate::text;
 use crate::text::MOST;
@@ -18,7 +19,7 @@ pub(crate) fn outcome(verb: &[u8], args: &[u8], out: Output) -> Output {
     if text::same(verb, b"pages") {
         return pages(out);
     }
-    out.text(b"unknown line")
+    samples::outcome(verb, args, out)
 }
 
 // Bytes, or one of two words: `blank`, `factory`.

@@ -1,3 +1,4 @@
+-- `message::fletcher::Sums::plus` meets its contract: the two wrapped sums are the definition's.
 use borrow.Author.Needs.{needs}
 use Rattle.message.proofs.fletcher.Sums.plus.Statement.{statement}
 use Rattle.message.proofs.fletcher.Sums.plus.Tie as tie
