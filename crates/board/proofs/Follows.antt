@@ -4,8 +4,8 @@ use mathlib.Core.List.{List, [], _∷_, _++_, append-assoc}
 use mathlib.Core.Path.{_≡_, refl, sym, ap, _∙_}
 use Prim.Native.Nat.{ℕ, _+_, _-_, _%_, _≤_}
 use native.Mathlib.Omega.{arith}
-use lib.ListN.{length, take, drop, getD, replicate, length-append, length-take, take-append-drop}
-use lib.Seq.{length-take-le, getD-take, take-append-seam}
+use lib.ListN.{length, take, drop, getD, replicate, length-append, length-take, length-drop, take-append-drop}
+use lib.Seq.{length-take-le, getD-take, take-append-seam, take-append-le, drop-append-le}
 use Rattle.stream.specs.declared.Sought.the-variants.{Found}
 use Rattle.stream.specs.Seek.{seek}
 use Rattle.stream.proofs.Framings.{IsWhole}
@@ -31,11 +31,15 @@ found-own u k n good e =
     let h : length (take n (drop k u)) ≡ lengthOf (take n (drop k u)) + 6 = l ∙ t .sized ∙ ap (λ (i : ℕ). i % 256 + 6) (sym b) in
     ap (commandOf good) (sym (take-append-drop n (drop k u))) ∙ own-bytes good (take n (drop k u)) (drop n (drop k u)) h
 
-pub found-taken : (held chunk : List ℕ) (k n : ℕ) (good : Bool) → seek front (held ++ chunk) ≡ Found k n good
-    → seek front (held ++ take (k + n - length held) chunk) ≡ Found k n good
-found-taken held chunk k n good e =
+-- The bytes of a found message are those in what is held and taken.
+pub found-visible : (held chunk : List ℕ) (k n : ℕ) (good : Bool) → seek front (held ++ chunk) ≡ Found k n good
+    → commandOf good (drop k (held ++ chunk)) ≡ commandOf good (take n (drop k (held ++ take (k + n - length held) chunk)))
+found-visible held chunk k n good e =
     let j : ℕ = k + n - length held in
-    let rejoin : held ++ take j chunk ++ drop j chunk ≡ held ++ chunk = simp (append-assoc, take-append-drop) in
+    let visible : List ℕ = held ++ take j chunk in
+    let rejoin : visible ++ drop j chunk ≡ held ++ chunk = simp (append-assoc, take-append-drop) in
     let s = cutting-harmless .found-sized (held ++ chunk) k n good e in
-    cutting-harmless .found-alone (held ++ take j chunk) (drop j chunk) k n good (rw rejoin e)
-    (omega (arith, s .inside, length-append held (take j chunk), length-take j chunk, length-append held chunk))
+    let l : k + n ≤ length visible = omega (arith, s .inside, length-append held (take j chunk), length-take j chunk, length-append held chunk) in
+    let d : drop k (held ++ chunk) ≡ drop k visible ++ drop j chunk = ap (drop k) (sym rejoin) ∙ drop-append-le k visible (drop j chunk) (omega arith) in
+    let t : take n (drop k (held ++ chunk)) ≡ take n (drop k visible) = ap (take n) d ∙ take-append-le n (drop k visible) (drop j chunk) (rw length-drop (omega arith)) in
+    found-own (held ++ chunk) k n good e ∙ ap (commandOf good) t

@@ -15,10 +15,10 @@ use Rattle.command.specs.Answer.{loadedFrom, settingsFrom, answering}
 use Rattle.command.specs.Handle.{settingsAllowed}
 use Rattle.board.specs.Port.{portHolding}
 use Rattle.board.specs.Start.{startOf}
-use Rattle.board.specs.Feed.{unsound, feedNumber, feedOf}
+use Rattle.board.specs.Feed.{unsound, feedNumber, stepOf, feedOf}
 use Rattle.board.specs.Runs.{callsFrom}
 use Rattle.board.specs.Samples.{SampleLines}
 
 pub sample-lines : SampleLines
-unfolding seek messageOf sumsRight front plainWriting settingOf allowed allAllowed writing factoryPage entryFrom entryOf partOf bodyOf valuesIn sound pageNumber pageWriting commandOf subjectOf fieldWrong errorOf effectOf loadedFrom settingsFrom answering settingsAllowed portHolding startOf unsound feedNumber feedOf callsFrom
+unfolding seek messageOf sumsRight front plainWriting settingOf allowed allAllowed writing factoryPage entryFrom entryOf partOf bodyOf valuesIn sound pageNumber pageWriting commandOf subjectOf fieldWrong errorOf effectOf loadedFrom settingsFrom answering settingsAllowed portHolding startOf unsound feedNumber stepOf feedOf callsFrom
 sample-lines = refl

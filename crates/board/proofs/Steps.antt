@@ -25,10 +25,10 @@ use Rattle.command.proofs.Pages.{reply-whole}
 use Rattle.board.specs.declared.port.Port.{Port}
 use Rattle.board.specs.declared.board.Board.{Board}
 use Rattle.board.specs.Port.{heldBytes, portHolding, portOf, withPort}
-use Rattle.board.specs.Feed.{Feeding, refuse, unsound, feedNumber, refusedFeeding, feedOn, acceptOn, feedOf}
+use Rattle.board.specs.Feed.{Feeding, refuse, unsound, feedNumber, refusedFeeding, stepOn, stepOf, feedOn, acceptOn, feedOf}
 use Rattle.board.specs.Handling.{Kept, handleMessage, keptTests}
 use Rattle.board.specs.Runs.{Call, Told}
-use Rattle.board.proofs.Follows.{holding, found-own, found-taken}
+use Rattle.board.proofs.Follows.{holding, found-visible}
 
 -- The board and its page, as that program keeps them.
 abbrev pub stateOf : Board → List ℕ → State (List ℕ) Kept
@@ -74,7 +74,7 @@ module _ (b : Board) (page : List ℕ) (c : Call) (k : Padded b) (large : replyR
   state-after (suc p) t = rw (holding (t .port))
 
   accepted : (q : Sought) → seek front (held ++ c .chunk) ≡ q
-      → Same c (feedOn q (c .port) b (c .chunk) (c .room) page) (accept (c .port) (stateOf b page) (turn q))
+      → Same c (feedOn (stepOn q held (b .settings) (c .chunk) (c .room) page) (c .port) b) (accept (c .port) (stateOf b page) (turn q))
   unfolding heldOn handleMessage answering
   accepted (Starved i) e =
       record {
@@ -84,8 +84,7 @@ module _ (b : Board) (page : List ℕ) (c : Call) (k : Padded b) (large : replyR
       }
   accepted (Found i n good) e =
       let visible : List ℕ = held ++ take (i + n - length held) (c .chunk) in
-      let same : commandOf good (drop i visible) ≡ commandOf good (take n (drop i visible)) =
-      found-own visible i n good (found-taken held (c .chunk) i n good e) in
+      let same : commandOf good (drop i (held ++ c .chunk)) ≡ commandOf good (take n (drop i visible)) = found-visible held (c .chunk) i n good e in
       let r = reply-whole (commandOf good (take n (drop i visible))) (b .settings) (c .room) page large in
       rw same
       (record {
@@ -100,8 +99,8 @@ abbrev pub feedFrom : Call → Feed
 feedFrom c = record { port = c .port; chunk = c .chunk; room = length (c .room) }
 
 -- That program's step, where its five tests come out so.
-abbrev stepOn : Bool → Bool → Bool → Bool → Bool → Board → List ℕ → Call → Step (State (List ℕ) Kept)
-stepOn a u r d e b page c =
+abbrev stepWith : Bool → Bool → Bool → Bool → Bool → Board → List ℕ → Call → Step (State (List ℕ) Kept)
+stepWith a u r d e b page c =
     let s : State (List ℕ) Kept = stateOf b page in
     refuseStep a 16 s
     (refuseStep u 17 s
@@ -119,8 +118,8 @@ module _ (b : Board) (page : List ℕ) (c : Call) (k : Padded b) where
   refused-same n = record { told = record { number = refl; taken = refl; skipped = refl; saved = refl; room = refl }; state = refl; padded = k }
 
   on-tests : (a u r d e : Bool) → ltb (length (c .room)) replyRoom ≡ r
-      → Same c (acceptOn (refuse a 16 (refuse u 17 (refuse r 18 (refuse d 19 (refuse e 20 0))))) (c .port) b (c .chunk) (c .room) page) (stepOn a u r d e b page c)
-  unfolding heldFeed
+      → Same c (acceptOn (refuse a 16 (refuse u 17 (refuse r 18 (refuse d 19 (refuse e 20 0))))) (c .port) b (c .chunk) (c .room) page) (stepWith a u r d e b page c)
+  unfolding heldFeed stepOf
   on-tests true u r d e h = refused-same 16
   on-tests false true r d e h = refused-same 17
   on-tests false false true d e h = refused-same 18
@@ -129,7 +128,7 @@ module _ (b : Board) (page : List ℕ) (c : Call) (k : Padded b) where
   on-tests false false false false false h =
       accepted b page c k (ltb-false (length (c .room)) replyRoom h) (seek front (heldBytes (portOf (c .port) b) ++ c .chunk)) refl
 
-  unsound-is : unsound b ≡ ltb 260 (length (heldBytes (b .first))) || ltb 260 (length (heldBytes (b .second))) || not (settingsAllowed (b .settings))
+  unsound-is : unsound (b .first .held) (b .second .held) (b .settings) ≡ ltb 260 (length (heldBytes (b .first))) || ltb 260 (length (heldBytes (b .second))) || not (settingsAllowed (b .settings))
   unfolding unsound
   unsound-is =
       ap (λ (i : ℕ). ltb 260 i || ltb 260 (b .second .held) || not (settingsAllowed (b .settings))) (count-is (b .first) (k .first))

@@ -9,12 +9,14 @@ use Rattle.stream.specs.declared.Sought.the-variants.{Starved, Found}
 use Rattle.stream.specs.Seek.{seek, resume, skippedBy}
 use Rattle.message.specs.Front.{front}
 use Rattle.page.specs.Sound.{pageNumber}
+use Rattle.command.specs.declared.settings.Settings.{Settings}
 use Rattle.command.specs.Command.{commandOf}
 use Rattle.command.specs.Answer.{Answering, answering}
 use Rattle.command.specs.Handle.{settingsAllowed, replyRoom}
 use Rattle.board.specs.declared.board.Board.{Board}
 use Rattle.board.specs.declared.board.Fed.{Fed}
-use Rattle.board.specs.Port.{portRoom, heldBytes, portHolding, portOf, withPort}
+use Rattle.board.specs.declared.feeding.Stepped.{Stepped}
+use Rattle.board.specs.Port.{portRoom, heldBytes, padded, portHolding, portOf, withPort}
 
 -- What a feed answers, and the reply room and the page afterwards.
 pub record Feeding : Type 0 where
@@ -29,12 +31,13 @@ refuse true n next = n
 refuse false n next = next
 
 -- A port holds over 260, or a working value is not allowed.
-unfoldable pub unsound : Board → Bool
-unsound b = ltb portRoom (b .first .held) || ltb portRoom (b .second .held) || not (settingsAllowed (b .settings))
+unfoldable pub unsound : ℕ → ℕ → Settings → Bool
+unsound first second w = ltb portRoom first || ltb portRoom second || not (settingsAllowed w)
 
 -- 16: port not 0 or 1; 17: board unsound; 18: room under 16 bytes; 19, 20: the page.
-unfoldable pub feedNumber : ℕ → Board → List ℕ → List ℕ → ℕ
-feedNumber port b room page = refuse (ltb 1 port) 16 (refuse (unsound b) 17 (refuse (ltb (length room) replyRoom) 18 (pageNumber page)))
+unfoldable pub feedNumber : ℕ → ℕ → ℕ → Settings → List ℕ → List ℕ → ℕ
+feedNumber port first second w room page =
+    refuse (ltb 1 port) 16 (refuse (unsound first second w) 17 (refuse (ltb (length room) replyRoom) 18 (pageNumber page)))
 
 -- A refusal takes 0 bytes, skips 0, returns the board given and writes nothing.
 abbrev pub refusedFeeding : ℕ → Board → List ℕ → List ℕ → Feeding
@@ -42,42 +45,88 @@ refusedFeeding n b room page = record { answer = record { number = n; taken = 0;
 
 -- ---- an accepted feed
 
+-- What a feed does to its port's held bytes, the settings, the room and the page.
+pub record PortStep : Type 0 where
+  pub number : ℕ
+  pub taken : ℕ
+  pub skipped : ℕ
+  pub saved : Bool
+  pub held : List ℕ
+  pub settings : Settings
+  pub room : List ℕ
+  pub page : List ℕ
+
+-- What a message behind k bytes, n long, leaves of the bytes held and of those taken up to its end.
+abbrev pub leftOf : ℕ → ℕ → Bool → List ℕ → List ℕ → List ℕ
+leftOf k n good held chunk = drop (resume k n good) (held ++ take (k + n - length held) chunk)
+
 -- A message is found behind k bytes of those held and then the chunk, n long: bytes are taken up to its end, it is handled,
 -- and what is left of the bytes held and taken stays held. Nothing is found: the whole chunk is taken, and what the seek
 -- left undecided stays held.
-abbrev pub feedOn : Sought → ℕ → Board → List ℕ → List ℕ → List ℕ → Feeding
-feedOn (Found k n good) port b chunk room page =
-    let held : List ℕ = heldBytes (portOf port b) in
-    let taken : ℕ = k + n - length held in
-    let visible : List ℕ = held ++ take taken chunk in
-    let a : Answering = answering (commandOf good (drop k visible)) (b .settings) room page in
+abbrev pub stepOn : Sought → List ℕ → Settings → List ℕ → List ℕ → List ℕ → PortStep
+stepOn (Found k n good) held w chunk room page =
+    let a : Answering = answering (commandOf good (drop k (held ++ chunk))) w room page in
     record {
-      answer = record {
-        number = 0;
-        taken = taken;
-        skipped = skippedBy k good;
-        saved = a .answer .saved;
-        board = withPort port b (portHolding (drop (resume k n good) visible)) (a .answer .settings);
-      };
+      number = 0;
+      taken = k + n - length held;
+      skipped = skippedBy k good;
+      saved = a .answer .saved;
+      held = leftOf k n good held chunk;
+      settings = a .answer .settings;
       room = a .room;
       page = a .page;
     }
-feedOn (Starved k) port b chunk room page =
+stepOn (Starved k) held w chunk room page =
     record {
-      answer = record {
-        number = 1;
-        taken = length chunk;
-        skipped = k;
-        saved = false;
-        board = withPort port b (portHolding (drop k (heldBytes (portOf port b) ++ chunk))) (b .settings);
-      };
+      number = 1;
+      taken = length chunk;
+      skipped = k;
+      saved = false;
+      held = drop k (held ++ chunk);
+      settings = w;
       room = room;
       page = page;
     }
 
+unfoldable pub stepOf : List ℕ → Settings → List ℕ → List ℕ → List ℕ → PortStep
+stepOf held w chunk room page = stepOn (seek front (held ++ chunk)) held w chunk room page
+
+-- The board after it.
+abbrev pub feedOn : PortStep → ℕ → Board → Feeding
+feedOn s port b =
+    record {
+      answer = record {
+        number = s .number;
+        taken = s .taken;
+        skipped = s .skipped;
+        saved = s .saved;
+        board = withPort port b (portHolding (s .held)) (s .settings);
+      };
+      room = s .room;
+      page = s .page;
+    }
+
 abbrev pub acceptOn : ℕ → ℕ → Board → List ℕ → List ℕ → List ℕ → Feeding
-acceptOn zero port b chunk room page = feedOn (seek front (heldBytes (portOf port b) ++ chunk)) port b chunk room page
+acceptOn zero port b chunk room page = feedOn (stepOf (heldBytes (portOf port b)) (b .settings) chunk room page) port b
 acceptOn (suc n) port b chunk room page = refusedFeeding (suc n) b room page
 
 unfoldable pub feedOf : ℕ → Board → List ℕ → List ℕ → List ℕ → Feeding
-feedOf port b chunk room page = acceptOn (feedNumber port b room page) port b chunk room page
+feedOf port b chunk room page = acceptOn (feedNumber port (b .first .held) (b .second .held) (b .settings) room page) port b chunk room page
+
+-- ---- a step in place, as the code makes it
+
+-- What a step answers, and the port's array, the room and the page afterwards.
+pub record Stepping : Type 0 where
+  pub step : Stepped
+  pub bytes : List ℕ
+  pub room : List ℕ
+  pub page : List ℕ
+
+abbrev pub inPlace : PortStep → Stepping
+inPlace s =
+    record {
+      step = record { number = s .number; taken = s .taken; skipped = s .skipped; saved = s .saved; held = length (s .held); settings = s .settings };
+      bytes = padded (s .held);
+      room = s .room;
+      page = s .page;
+    }

@@ -13,9 +13,13 @@ portRoom = 260
 abbrev pub heldBytes : Port → List ℕ
 heldBytes p = take (p .held) (p .bytes)
 
+-- Bytes, and zeros past them.
+abbrev pub padded : List ℕ → List ℕ
+padded bs = bs ++ replicate (portRoom - length bs) 0
+
 -- The port that holds these bytes: its room past them is zero.
 unfoldable pub portHolding : List ℕ → Port
-portHolding bs = record { bytes = bs ++ replicate (portRoom - length bs) 0; held = length bs }
+portHolding bs = record { bytes = padded bs; held = length bs }
 
 -- A fresh port holds nothing.
 abbrev pub freshPort : Port

@@ -1,9 +1,14 @@
 // The board: two ports that hold unread bytes, the working settings, starting and feeding. The definitions that the
 // contracts cite stand in specs/.
 mod board;
+mod feeding;
+mod keep;
 mod port;
+mod starting;
 
 pub use board::Board;
 pub use board::Fed;
 pub use board::Started;
+pub use feeding::feed;
 pub use port::Port;
+pub use starting::start;

@@ -1,0 +1,227 @@
+-- The laws of a step in place: what the seek finds lies in the bytes held and taken, and what is left of them fits the port.
+use Prim.Native.Nat.{ℕ, zero, suc, _+_, _-_, _≤_, _<_}
+use native.Mathlib.Omega.{arith}
+use mathlib.Core.Path.{_≡_, refl, sym, ap, subst, _∙_}
+use mathlib.Core.Bool.{Bool, true, false, _||_, not}
+use mathlib.Core.List.{List, [], _∷_, _++_}
+use lib.Dec.{ltb}
+use lib.ListN.{length, take, drop, length-append, length-take, length-drop}
+use lib.Seq.{take-all, length-take-le, take-append-add}
+use borrow.Author.Tests.{ltb-false}
+use Rattle.stream.proofs.Bools.{or-neither}
+use Rattle.stream.specs.declared.Sought.{Sought}
+use Rattle.stream.specs.declared.Sought.the-variants.{Starved, Found}
+use Rattle.stream.specs.Seek.{seek, resume, skippedBy}
+use Rattle.stream.specs.Cutting.{Agrees, StarvedAt}
+use Rattle.message.specs.Front.{front, mostUndecided}
+use Rattle.message.proofs.Framed.{cutting-harmless}
+use Rattle.command.specs.declared.settings.Settings.{Settings}
+use Rattle.command.specs.declared.command.Command.{Command}
+use Rattle.command.specs.Command.{commandOf}
+use Rattle.command.specs.declared.answer.Answer.{Answer}
+use Rattle.command.specs.Answer.{Answering, answering}
+use Rattle.command.specs.Handle.{settingsAllowed}
+use Rattle.board.specs.declared.feeding.Stepped.{Stepped}
+use Rattle.board.specs.declared.board.Board.{Board}
+use Rattle.board.specs.declared.board.Fed.{Fed}
+use Rattle.board.specs.Port.{padded, heldBytes, portHolding, portOf}
+use Rattle.board.specs.Feed.{Feeding, PortStep, refuse, unsound, feedNumber, refusedFeeding, acceptOn, leftOf, stepOn, stepOf, inPlace, Stepping, feedOn, feedOf}
+use Rattle.board.proofs.Kept.{window-length}
+use Rattle.board.proofs.Starts.{drop-take}
+
+-- What the seek answered is what it is by definition.
+pub sought-is : (s : Sought) (u : List ℕ) → s ≡ seek front u → (t : Sought) → s ≡ t → seek front u ≡ t
+sought-is s u e t h = sym e ∙ h
+
+-- Where reading goes on after a message of n bytes at k.
+module _ (k n : ℕ) (some : 1 ≤ n) where
+  pub resume-in : (good : Bool) → resume k n good ≤ k + n
+  resume-in true = omega arith
+  resume-in false = omega arith
+
+  pub resume-past : (good : Bool) → suc k ≤ resume k n good
+  resume-past true = omega arith
+  resume-past false = omega arith
+
+module _ (b chunk : List ℕ) (held : ℕ) (few : held ≤ 260) (long : length b ≡ 260) where
+  row-long : length (take held b ++ chunk) ≡ held + length chunk
+  row-long = window-length b chunk held few long
+
+  held-long : length (take held b) ≡ held
+  held-long = length-take-le held b (omega arith)
+
+  -- ---- nothing found
+
+  module _ (k : ℕ) (e : seek front (take held b ++ chunk) ≡ Starved k) where
+    starved : StarvedAt front mostUndecided (take held b ++ chunk) k
+    starved = subst (Agrees front mostUndecided (take held b ++ chunk)) e (cutting-harmless .agrees (take held b ++ chunk))
+
+    pub starved-in : k ≤ held + length chunk
+    starved-in = omega (arith, row-long, starved .inside)
+
+    pub starved-few : held + length chunk - k ≤ 260
+    starved-few = omega (arith, row-long, length-drop k (take held b ++ chunk), starved .few)
+
+    pub starved-long : held + length chunk - k ≡ length (drop k (take held b ++ chunk))
+    starved-long = sym (length-drop k (take held b ++ chunk) ∙ ap (λ (i : ℕ). i - k) row-long)
+
+    pub starved-answer : (w : Settings) → _≡_ {A = Stepped}
+        (record { number = 1; taken = length chunk; skipped = k; saved = false; held = held + length chunk - k; settings = w })
+        (record { number = 1; taken = length chunk; skipped = k; saved = false; held = length (drop k (take held b ++ chunk)); settings = w })
+    starved-answer w = rw starved-long
+
+    pub starved-kept : (y : List ℕ) → y ≡ padded (take (held + length chunk - k) (drop k (take held b ++ chunk))) → y ≡ padded (drop k (take held b ++ chunk))
+    starved-kept y ys = ys ∙ ap padded (take-all (held + length chunk - k) (drop k (take held b ++ chunk)) (omega (arith, starved-long)))
+
+    pub starved-step : (w : Settings) (room page y : List ℕ) (r : Stepped)
+        → r ≡ record { number = 1; taken = length chunk; skipped = k; saved = false; held = length (drop k (take held b ++ chunk)); settings = w }
+        → y ≡ padded (drop k (take held b ++ chunk))
+        → record { step = r; bytes = y; room = room; page = page } ≡ inPlace (stepOf (take held b) w chunk room page)
+    unfolding stepOf
+    starved-step w room page y r rs ys = rw (rs, ys, e)
+
+  -- ---- a message found
+
+  module _ (k n : ℕ) (good : Bool) (e : seek front (take held b ++ chunk) ≡ Found k n good) where
+    pub found-some : 1 ≤ n
+    found-some = cutting-harmless .found-sized (take held b ++ chunk) k n good e .some
+
+    found-most : n ≤ 261
+    found-most = cutting-harmless .found-sized (take held b ++ chunk) k n good e .most
+
+    pub found-in : k + n ≤ held + length chunk
+    found-in = omega (arith, row-long, cutting-harmless .found-sized (take held b ++ chunk) k n good e .inside)
+
+    pub found-at : k ≤ held + length chunk
+    found-at = omega (arith, found-in)
+
+    pub found-step : (w : Settings) (room page : List ℕ) (c : Command) → c ≡ commandOf good (drop k (take held b ++ chunk))
+        → (a : Answer) (roomAfter pageAfter : List ℕ) → record { answer = a; room = roomAfter; page = pageAfter } ≡ answering c w room page
+        → (t : ℕ) → t ≡ k + n - held
+        → (sk : ℕ) → sk ≡ skippedBy k good
+        → (l : ℕ) → l ≡ length (leftOf k n good (take held b) chunk)
+        → (y : List ℕ) → y ≡ padded (leftOf k n good (take held b) chunk)
+        → record { step = record { number = 0; taken = t; skipped = sk; saved = a .saved; held = l; settings = a .settings }; bytes = y; room = roomAfter; page = pageAfter }
+        ≡ inPlace (stepOf (take held b) w chunk room page)
+    unfolding stepOf
+    found-step w room page c cs a roomAfter pageAfter gs t ts sk sks l ls y ys =
+        let h : k + n - length (take held b) ≡ k + n - held = ap (λ (i : ℕ). k + n - i) held-long in
+        let g : record { answer = a; room = roomAfter; page = pageAfter } ≡ answering (commandOf good (drop k (take held b ++ chunk))) w room page =
+        gs ∙ ap (λ (c : Command). answering c w room page) cs in
+        rw (e, ys, ls, sks, ts, ← h)
+        (ap (λ (g : Answering). record {
+          step = record { number = 0; taken = k + n - length (take held b); skipped = skippedBy k good; saved = g .answer .saved; held = length (leftOf k n good (take held b) chunk); settings = g .answer .settings };
+          bytes = padded (leftOf k n good (take held b) chunk);
+          room = g .room;
+          page = g .page;
+        }) g)
+
+    -- What is kept: from..to of the row.
+    module _ (from x : ℕ) (fs : from ≡ resume k n good) (xs : x ≡ k + n - held) where
+      pub kept-after : from ≤ held + x
+      kept-after = omega (arith, fs, xs, resume-in k n found-some good)
+
+      pub kept-inside : held + x ≤ held + length chunk
+      kept-inside = omega (arith, xs, found-in)
+
+      pub kept-few : held + x - from ≤ 260
+      kept-few = omega (arith, few, fs, xs, resume-past k n found-some good, found-most)
+
+      row-to : take held b ++ take (k + n - length (take held b)) chunk ≡ take (held + x) (take held b ++ chunk)
+      row-to =
+          let h : held + x ≡ length (take held b) + (k + n - length (take held b)) = omega (arith, xs, held-long) in
+          sym (ap (λ (i : ℕ). take i (take held b ++ chunk)) h ∙ take-append-add (take held b) chunk (k + n - length (take held b)))
+
+      left-is : leftOf k n good (take held b) chunk ≡ take (held + x - from) (drop from (take held b ++ chunk))
+      left-is =
+          ap (drop (resume k n good)) row-to
+          ∙ ap (λ (i : ℕ). drop i (take (held + x) (take held b ++ chunk))) (sym fs)
+          ∙ drop-take from (held + x) (take held b ++ chunk) kept-after (omega (arith, kept-inside, row-long))
+
+      pub left-long : held + x - from ≡ length (leftOf k n good (take held b) chunk)
+      left-long = sym (ap length left-is ∙ length-take-le (held + x - from) (drop from (take held b ++ chunk)) (omega (arith, length-drop from (take held b ++ chunk), row-long, kept-inside)))
+
+      pub left-kept : (y : List ℕ) → y ≡ padded (take (held + x - from) (drop from (take held b ++ chunk))) → y ≡ padded (leftOf k n good (take held b) chunk)
+      left-kept y ys = ys ∙ ap padded (sym left-is)
+
+-- ---- the step put back into the board
+
+abbrev fedBy : Stepping → Board → Feeding
+fedBy t b = record { answer = record { number = t .step .number; taken = t .step .taken; skipped = t .step .skipped; saved = t .step .saved; board = b }; room = t .room; page = t .page }
+
+module _ (b : Board) (s : PortStep) (r : Stepped) (y room page : List ℕ) (e : record { step = r; bytes = y; room = room; page = page } ≡ inPlace s) where
+  pub fed-first :
+      record {
+        answer = record {
+          number = r .number;
+          taken = r .taken;
+          skipped = r .skipped;
+          saved = r .saved;
+          board = record { first = record { bytes = y; held = r .held }; second = b .second; settings = r .settings };
+        };
+        room = room;
+        page = page;
+      } ≡ feedOn s 0 b
+  unfolding portHolding
+  fed-first = ap (λ (t : Stepping). fedBy t (record { first = record { bytes = t .bytes; held = t .step .held }; second = b .second; settings = t .step .settings })) e
+
+  pub fed-second :
+      record {
+        answer = record {
+          number = r .number;
+          taken = r .taken;
+          skipped = r .skipped;
+          saved = r .saved;
+          board = record { first = b .first; second = record { bytes = y; held = r .held }; settings = r .settings };
+        };
+        room = room;
+        page = page;
+      } ≡ feedOn s 1 b
+  unfolding portHolding
+  fed-second = ap (λ (t : Stepping). fedBy t (record { first = b .first; second = record { bytes = t .bytes; held = t .step .held }; settings = t .step .settings })) e
+
+-- ---- the tests, then the port
+
+passes : (a : Bool) (n next : ℕ) → refuse a (suc n) next ≡ 0 → (a ≡ false) × (next ≡ 0)
+passes true n next h =
+    let no : ⊥ = omega (arith, h) in
+    absurd no
+passes false n next h = (refl, h)
+
+module _ (port : ℕ) (b : Board) (chunk room page : List ℕ) (n : ℕ) (ns : n ≡ feedNumber port (b .first .held) (b .second .held) (b .settings) room page) where
+  pub feed-refused : (n ≡ 0 → ⊥) → record { answer = record { number = n; taken = 0; skipped = 0; saved = false; board = b }; room = room; page = page } ≡ feedOf port b chunk room page
+  unfolding feedOf
+  feed-refused h = rw (← ns) (go n h)
+    where
+      go : (n : ℕ) → (n ≡ 0 → ⊥) → refusedFeeding n b room page ≡ acceptOn n port b chunk room page
+      go zero h = absurd (h refl)
+      go (suc n) h = refl
+
+  sound : n ≡ 0 → (ltb 260 (b .first .held) ≡ false) × (ltb 260 (b .second .held) ≡ false)
+  unfolding feedNumber unsound
+  sound z =
+      let t : (ltb 1 port ≡ false) × _ = passes (ltb 1 port) 15 _ (sym ns ∙ z) in
+      let u : (unsound (b .first .held) (b .second .held) (b .settings) ≡ false) × _ = passes (unsound (b .first .held) (b .second .held) (b .settings)) 16 _ (t .1) in
+      let o = or-neither (ltb 260 (b .first .held) || ltb 260 (b .second .held)) (not (settingsAllowed (b .settings))) (u .0) in
+      or-neither (ltb 260 (b .first .held)) (ltb 260 (b .second .held)) (o .0)
+
+  pub first-sound : n ≡ 0 → b .first .held ≤ 260
+  first-sound z = ltb-false 260 (b .first .held) (sound z .0)
+
+  pub second-sound : n ≡ 0 → b .second .held ≤ 260
+  second-sound z = ltb-false 260 (b .second .held) (sound z .1)
+
+  module _ (r : Fed) (roomAfter pageAfter : List ℕ) where
+    pub feed-on-first : n ≡ 0 → port ≡ 0 → record { answer = r; room = roomAfter; page = pageAfter } ≡ feedOn (stepOf (heldBytes (b .first)) (b .settings) chunk room page) 0 b
+        → record { answer = r; room = roomAfter; page = pageAfter } ≡ feedOf port b chunk room page
+    unfolding feedOf
+    feed-on-first z p e = e ∙ rw (← ns, z, p)
+
+    pub feed-on-second : n ≡ 0 → (port ≡ 0 → ⊥) → record { answer = r; room = roomAfter; page = pageAfter } ≡ feedOn (stepOf (heldBytes (b .second)) (b .settings) chunk room page) 1 b
+        → record { answer = r; room = roomAfter; page = pageAfter } ≡ feedOf port b chunk room page
+    unfolding feedOf
+    feed-on-second z p e = e ∙ rw (← ns, z) (go port p)
+      where
+        go : (port : ℕ) → (port ≡ 0 → ⊥) → feedOn (stepOf (heldBytes (b .second)) (b .settings) chunk room page) 1 b ≡ feedOn (stepOf (heldBytes (portOf port b)) (b .settings) chunk room page) port b
+        go zero p = absurd (p refl)
+        go (suc port) p = refl

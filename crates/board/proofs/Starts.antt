@@ -1,0 +1,112 @@
+-- Starting, and the tests of a feed, case by case.
+use Prim.Native.Nat.{ℕ, zero, suc, _+_, _-_, _≤_, _<_}
+use native.Mathlib.Omega.{arith}
+use native.Mathlib.Numerals.{add-one}
+use mathlib.Core.Path.{_≡_, refl, sym, ap, _∙_}
+use mathlib.Core.Bool.{Bool, true, false, _||_, not, or-true}
+use mathlib.Core.List.{List, [], _∷_, _++_}
+use lib.Dec.{ltb}
+use lib.ListN.{length, take, drop, length-take, length-drop}
+use lib.Seq.{take-all, take-add, drop-at, drop-append-le, length-take-le}
+use borrow.Author.Tests.{lt-ltb, le-ltb, not-true, not-false}
+use Rattle.stream.specs.Seek.{resume, skippedBy}
+use Rattle.message.proofs.Windows.{drop-chunk}
+use Rattle.page.specs.Sound.{pageNumber}
+use Rattle.command.specs.declared.settings.Settings.{Settings}
+use Rattle.command.specs.declared.command.Command.{Command}
+use Rattle.command.specs.Command.{commandOf}
+use Rattle.command.specs.Answer.{settingsFrom}
+use Rattle.command.specs.Handle.{settingsAllowed}
+use Rattle.board.specs.declared.board.Board.{Board}
+use Rattle.board.specs.declared.board.Started.{Started}
+use Rattle.board.specs.declared.port.Port.{Port}
+use Rattle.board.specs.Port.{freshPort}
+use Rattle.board.specs.Start.{factorySettings, freshBoard, startOn, startOf}
+use Rattle.board.specs.Feed.{unsound, feedNumber}
+
+-- ---- starting
+
+pub fresh-made : (w : Settings) (a b : Port) → a ≡ freshPort → b ≡ freshPort → record { first = a; second = b; settings = w } ≡ freshBoard w
+fresh-made w a b p q = rw (p, q)
+
+module _ (page : List ℕ) (n : ℕ) (ns : n ≡ pageNumber page) (b : Board) (w : Settings) (bs : b ≡ freshBoard w) where
+  pub start-refused : (n ≡ 0 → ⊥) → w ≡ factorySettings → record { number = n; board = b } ≡ startOf page
+  unfolding startOf
+  start-refused h ws = rw (bs, ws, ← ns) (go n h)
+    where
+      go : (n : ℕ) → (n ≡ 0 → ⊥) → record { number = n; board = freshBoard factorySettings } ≡ startOn n page
+      go zero h = absurd (h refl)
+      go (suc n) h = refl
+
+  pub start-done : n ≡ 0 → w ≡ settingsFrom page → record { number = 0; board = b } ≡ startOf page
+  unfolding startOf
+  start-done z ws = rw (bs, ws, ← ns, z)
+
+-- ---- the tests of a feed
+
+module _ (port first second : ℕ) (w : Settings) (room page : List ℕ) where
+  pub number-16 : 1 < port → 16 ≡ feedNumber port first second w room page
+  unfolding feedNumber
+  number-16 h = rw (lt-ltb 1 port h)
+
+  module _ (p : port ≤ 1) where
+    pub number-first : 260 < first → 17 ≡ feedNumber port first second w room page
+    unfolding feedNumber unsound
+    number-first h = rw (le-ltb 1 port p, lt-ltb 260 first h)
+
+    module _ (a : first ≤ 260) where
+      pub number-second : 260 < second → 17 ≡ feedNumber port first second w room page
+      unfolding feedNumber unsound
+      number-second h = rw (le-ltb 1 port p, le-ltb 260 first a, lt-ltb 260 second h)
+
+      module _ (b : second ≤ 260) (s : Bool) (ss : s ≡ settingsAllowed w) where
+        pub number-settings : not s ≡ true → 17 ≡ feedNumber port first second w room page
+        unfolding feedNumber unsound
+        number-settings h = rw (le-ltb 1 port p, le-ltb 260 first a, le-ltb 260 second b, ← ss, h)
+
+        module _ (h : not s ≡ false) where
+          pub number-18 : length room < 16 → 18 ≡ feedNumber port first second w room page
+          unfolding feedNumber unsound
+          number-18 l = rw (le-ltb 1 port p, le-ltb 260 first a, le-ltb 260 second b, ← ss, h, lt-ltb (length room) 16 l)
+
+          pub number-page : 16 ≤ length room → (n : ℕ) → n ≡ pageNumber page → n ≡ feedNumber port first second w room page
+          unfolding feedNumber unsound
+          number-page l n e = rw (le-ltb 1 port p, le-ltb 260 first a, le-ltb 260 second b, ← ss, h, le-ltb (length room) 16 l) e
+
+-- ---- a message's place
+
+module _ (k n : ℕ) (good : Bool) where
+  pub resume-good : good ≡ true → k + n ≡ resume k n good
+  resume-good e = rw e
+
+  pub resume-damaged : good ≡ false → k + 1 ≡ resume k n good
+  resume-damaged e = rw (e, add-one)
+
+module _ (k : ℕ) (good : Bool) where
+  pub skipped-good : good ≡ true → k ≡ skippedBy k good
+  skipped-good e = rw e
+
+  pub skipped-damaged : good ≡ false → k + 1 ≡ skippedBy k good
+  skipped-damaged e = rw (e, add-one)
+
+pub drop-take : (k held : ℕ) (l : List ℕ) → k ≤ held → held ≤ length l → drop k (take held l) ≡ take (held - k) (drop k l)
+drop-take k held l h s =
+    let q : held ≡ k + (held - k) = omega arith in
+    ap (λ (i : ℕ). drop k (take i l)) q ∙ ap (drop k) (take-add k (held - k) l) ∙ drop-at (take k l) (take (held - k) (drop k l)) k (length-take-le k l (omega arith))
+
+module _ (bytes chunk : List ℕ) (held k : ℕ) (good : Bool) (fits : held ≤ length bytes) where
+  held-long : length (take held bytes) ≡ held
+  held-long = length-take-le held bytes fits
+
+  pub command-held : k < held → (c : Command) → c ≡ commandOf good (take (held - k) (drop k bytes) ++ chunk) → c ≡ commandOf good (drop k (take held bytes ++ chunk))
+  command-held h c e =
+      let d : drop k (take held bytes ++ chunk) ≡ take (held - k) (drop k bytes) ++ chunk =
+      drop-append-le k (take held bytes) chunk (rw held-long (omega arith)) ∙ ap (λ (l : List ℕ). l ++ chunk) (drop-take k held bytes (omega arith) fits) in
+      rw d e
+
+  pub command-chunk : held ≤ k → (c : Command) → c ≡ commandOf good (take (length chunk - (k - held)) (drop (k - held) chunk)) → c ≡ commandOf good (drop k (take held bytes ++ chunk))
+  command-chunk h c e =
+      let t : take (length chunk - (k - held)) (drop (k - held) chunk) ≡ drop (k - held) chunk =
+      take-all (length chunk - (k - held)) (drop (k - held) chunk) (rw length-drop (omega arith)) in
+      let d : drop (k - held) chunk ≡ drop k (take held bytes ++ chunk) = rw held-long at (drop-chunk (take held bytes) chunk k (rw held-long h)) in
+      rw (← d, ← t) e

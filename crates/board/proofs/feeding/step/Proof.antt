@@ -1,0 +1,47 @@
+-- `board::feeding::step` meets its contract.
+use mathlib.Core.Path.{_∙_, sym}
+use Rattle.board.proofs.Places.{starved-step, sought-is}
+use borrow.Author.Needs.{needs}
+use Rattle.board.proofs.feeding.step.Statement.{statement}
+use Rattle.board.proofs.feeding.step.Tie as tie
+
+seek-held-requires : tie.Need-seek-held-requires
+seek-held-requires c κs = search needs
+
+enum-known-k : tie.Need-enum-known-k
+enum-known-k c = search needs
+
+step-starved-requires : tie.Need-step-starved-requires
+step-starved-requires c κs = (search needs, search (sought-is, needs))
+
+enum-known-k-2 : tie.Need-enum-known-k-2
+enum-known-k-2 c = search needs
+
+step-found-requires : tie.Need-step-found-requires
+step-found-requires c κs = (search needs, search (sought-is, needs))
+
+returns : tie.Need-returns
+returns c = search (starved-step, sought-is, needs)
+
+same-length : tie.Need-same-length
+same-length c = search needs
+
+same-length-2 : tie.Need-same-length-2
+same-length-2 c = search needs
+
+returns-2 : tie.Need-returns-2
+returns-2 c = search needs
+
+pub step-spec : {M : Type 1} → statement M
+step-spec =
+    tie.close
+    (tie.spec
+    seek-held-requires
+    enum-known-k
+    step-starved-requires
+    enum-known-k-2
+    step-found-requires
+    returns
+    same-length
+    same-length-2
+    returns-2)

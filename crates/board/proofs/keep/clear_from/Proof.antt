@@ -1,0 +1,50 @@
+-- `board::keep::clear_from` meets its contract.
+use Rattle.board.proofs.Kept.{clear-none, clear-all}
+use native.Mathlib.Omega.{arith}
+use Prim.Native.Nat.{ℕ, _+_, _-_, _<_, _≤_}
+use mathlib.Core.Path.{_≡_, _∙_, sym, refl}
+use mathlib.Core.List.{List, _++_, append-assoc, append-nil}
+use lib.ListN.{length, take, drop, getD, replicate, length-drop, length-append, take-append-drop}
+use lib.Seq.{length-take-le, drop-length}
+use denote.Ref.{now}
+use borrow.Author.Needs.{needs}
+use Rattle.board.proofs.Kept.{clear-suc}
+use Rattle.board.proofs.keep.clear_from.Statement.{statement}
+use Rattle.board.proofs.keep.clear_from.Tie as tie
+
+abbrev Inv-loop : tie.InvT-loop
+Inv-loop bytes₀ n j₀ bytes j = (n ≤ j) × (j ≤ 260) × (length bytes₀ ≡ 260) × (bytes ≡ take n bytes₀ ++ replicate (j - n) 0 ++ drop j bytes₀)
+
+abbrev μ-loop : tie.MeasureT-loop
+μ-loop bytes₀ n j₀ bytes j = 260 - j
+
+loop-holds : tie.Need-loop-holds Inv-loop μ-loop
+loop-holds c = (omega arith, omega arith, c .pre .1, clear-none (now (c .args .bytes)) (c .args .n))
+
+element-write-bytes : tie.Need-element-write-bytes Inv-loop μ-loop
+element-write-bytes c = search needs
+
+add-j : tie.Need-add-j Inv-loop μ-loop
+add-j c = search needs
+
+loop-less : tie.Need-loop-less Inv-loop μ-loop
+loop-less c = search needs
+
+loop-again : tie.Need-loop-again Inv-loop μ-loop
+loop-again c =
+    let a = c .before .before .args in
+    let l = c .before .loop in
+    let i = l .inv in
+    (omega arith, omega arith, i .2, rw (i .3) (clear-suc (now (a .bytes)) (a .n) (l .j) (i .0) (omega arith)))
+
+returns : tie.Need-returns Inv-loop μ-loop
+returns c =
+    let a = c .before .before .args in
+    let l = c .before .loop in
+    let i = l .inv in
+    i .3 ∙ clear-all (now (a .bytes)) (a .n) (l .j) (i .2) (omega arith)
+
+pub clear-from-spec : {M : Type 1} → statement M
+clear-from-spec =
+    tie.close
+    (tie.spec Inv-loop μ-loop loop-holds element-write-bytes add-j loop-less loop-again returns)

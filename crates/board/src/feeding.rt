@@ -1,0 +1,247 @@
+// A feed.
+ghost use mathlib.Core.Path.{_≡_};
+ghost use mathlib.Core.Bool.{false};
+ghost use mathlib.Core.List.{_++_};
+ghost use lib.ListN.{length, take, drop};
+ghost use Prim.Native.Nat.{_+_, _-_, _≤_, _<_};
+ghost use Rattle.stream.specs.declared.Sought.the-variants.{Starved, Found};
+ghost use Rattle.stream.specs.Seek.{seek, resume, skippedBy};
+ghost use Rattle.message.specs.Front.{front};
+ghost use Rattle.command.specs.Command.{commandOf};
+ghost use Rattle.board.specs.Port.{heldBytes, padded};
+ghost use Rattle.board.specs.Feed.{feedNumber, leftOf, stepOf, inPlace, feedOn, feedOf};
+use crate::board::Board;
+use crate::board::Fed;
+use crate::keep::keep_part;
+use crate::port::Port;
+use command::Command;
+use command::Settings;
+use command::answer_command;
+use command::command_over;
+use command::settings_allowed;
+use message::seek_held;
+use stream::Sought;
+
+// The number of the first test that refuses, 0 where none does.
+fn feed_number(port: u8, first: usize, second: usize, w: Settings, room: &[u8], page: &[u8]) -> u8
+    ensures { λ r. ⌜ r ≡ feedNumber port first second w (now (room .entry)) (now (page .entry)) ⌝ }
+{
+    if 1 < port {
+        return 16;
+    }
+    if Port::ROOM < first {
+        return 17;
+    }
+    if Port::ROOM < second {
+        return 17;
+    }
+    if !settings_allowed(w) {
+        return 17;
+    }
+    if room.len() < Port::REPLY {
+        return 18;
+    }
+    page::check_page(page)
+}
+
+// The message that starts behind `k` bytes of the first `held` and then the chunk.
+fn command_at(bytes: &[u8], held: usize, chunk: &[u8], k: usize, good: bool) -> Command
+    requires { ⌜ (held ≤ length (now bytes)) × (k ≤ held + length (now chunk)) ⌝ }
+    ensures { λ r. ⌜ r ≡ commandOf good (drop k (take held (now (bytes .entry)) ++ now (chunk .entry))) ⌝ }
+{
+    if k < held {
+        return command_over(&bytes[k..held], chunk, good);
+    }
+    let j = k - held;
+    command_over(&bytes[..0], &chunk[j..], good)
+}
+
+// The part of `x` beyond `y`.
+fn excess(x: usize, y: usize) -> usize
+    ensures { λ r. ⌜ r ≡ x - y ⌝ }
+{
+    if x < y { 0 } else { x - y }
+}
+
+// Where reading goes on after a message, and the bytes skipped with it.
+fn resume_at(k: usize, n: usize, good: bool) -> usize
+    requires { ⌜ k + n < 18446744073709551616 ⌝ }
+    requires { ⌜ 1 ≤ n ⌝ }
+    ensures { λ r. ⌜ r ≡ resume k n good ⌝ }
+{
+    if good { k + n } else { k + 1 }
+}
+
+fn skipped_with(k: usize, good: bool) -> usize
+    requires { ⌜ k + 1 < 18446744073709551616 ⌝ }
+    ensures { λ r. ⌜ r ≡ skippedBy k good ⌝ }
+{
+    if good { k } else { k + 1 }
+}
+
+// Keeps what a found message leaves of the bytes held and taken, and says how many they are.
+fn keep_after(
+    bytes: &mut [u8; 260],
+    held: usize,
+    chunk: &[u8],
+    k: usize,
+    n: usize,
+    good: bool,
+) -> usize
+    requires { ⌜ (held ≤ 260) × (length (now bytes) ≡ 260) ⌝ }
+    requires { ⌜ seek front (take held (now bytes) ++ now chunk) ≡ Found k n good ⌝ }
+    ensures { λ r. ⌜ r ≡ length (leftOf k n good (take held (now (bytes .entry))) (now (chunk .entry))) ⌝ }
+    ensures { λ r. ⌜ now (bytes .exit) ≡ padded (leftOf k n good (take held (now (bytes .entry))) (now (chunk .entry))) ⌝ }
+{
+    let from = resume_at(k, n, good);
+    let to = held + excess(k + n, held);
+    keep_part(bytes, held, chunk, from, to);
+    to - from
+}
+
+// What a step of a port answers. The port's bytes stay in its array.
+pub struct Stepped {
+    pub number: u8,
+    pub taken: usize,
+    pub skipped: usize,
+    pub saved: bool,
+    pub held: usize,
+    pub settings: Settings,
+}
+
+// A step where nothing is found: the whole chunk is taken.
+fn step_starved(bytes: &mut [u8; 260], held: usize, chunk: &[u8], k: usize, w: Settings) -> Stepped
+    requires { ⌜ (held ≤ 260) × (length (now bytes) ≡ 260) ⌝ }
+    requires { ⌜ seek front (take held (now bytes) ++ now chunk) ≡ Starved k ⌝ }
+    ensures { λ r. ⌜ r ≡ record { number = 1; taken = length (now (chunk .entry)); skipped = k; saved = false; held = length (drop k (take held (now (bytes .entry)) ++ now (chunk .entry))); settings = w } ⌝ }
+    ensures { λ r. ⌜ now (bytes .exit) ≡ padded (drop k (take held (now (bytes .entry)) ++ now (chunk .entry))) ⌝ }
+{
+    let to = held + chunk.len();
+    keep_part(bytes, held, chunk, k, to);
+    Stepped {
+        number: 1,
+        taken: chunk.len(),
+        skipped: k,
+        saved: false,
+        held: to - k,
+        settings: w,
+    }
+}
+
+// A step where a message is found: it is handled, and bytes are taken up to its end.
+fn step_found(
+    bytes: &mut [u8; 260],
+    held: usize,
+    chunk: &[u8],
+    k: usize,
+    n: usize,
+    good: bool,
+    w: Settings,
+    room: &mut [u8],
+    page: &mut [u8],
+) -> Stepped
+    requires { ⌜ (held ≤ 260) × (length (now bytes) ≡ 260) ⌝ }
+    requires { ⌜ seek front (take held (now bytes) ++ now chunk) ≡ Found k n good ⌝ }
+    ensures { λ r. ⌜ record { step = r; bytes = now (bytes .exit); room = now (room .exit); page = now (page .exit) } ≡ inPlace (stepOf (take held (now (bytes .entry))) w (now (chunk .entry)) (now (room .entry)) (now (page .entry))) ⌝ }
+{
+    let taken = excess(k + n, held);
+    let skipped = skipped_with(k, good);
+    let a = answer_command(command_at(bytes, held, chunk, k, good), w, room, page);
+    let settings = a.settings;
+    Stepped {
+        number: 0,
+        taken,
+        skipped,
+        saved: a.saved,
+        held: keep_after(bytes, held, chunk, k, n, good),
+        settings,
+    }
+}
+
+// One accepted feed of a port, in its array.
+fn step(
+    bytes: &mut [u8; 260],
+    held: usize,
+    chunk: &[u8],
+    w: Settings,
+    room: &mut [u8],
+    page: &mut [u8],
+) -> Stepped
+    requires { ⌜ (held ≤ 260) × (length (now bytes) ≡ 260) ⌝ }
+    ensures { λ r. ⌜ record { step = r; bytes = now (bytes .exit); room = now (room .exit); page = now (page .exit) } ≡ inPlace (stepOf (take held (now (bytes .entry))) w (now (chunk .entry)) (now (room .entry)) (now (page .entry))) ⌝ }
+{
+    match seek_held(bytes, held, chunk) {
+        Sought::Starved(k) => step_starved(bytes, held, chunk, k, w),
+        Sought::Found(k, n, good) => step_found(bytes, held, chunk, k, n, good, w, room, page),
+    }
+}
+
+// A feed of a sound board's first port, in its place: nothing else of the board moves.
+fn feed_first(mut board: Board, chunk: &[u8], room: &mut [u8], page: &mut [u8]) -> Fed
+    requires { ⌜ board .first .held ≤ 260 ⌝ }
+    ensures { λ r. ⌜ record { answer = r; room = now (room .exit); page = now (page .exit) } ≡ feedOn (stepOf (heldBytes (board .first)) (board .settings) (now (chunk .entry)) (now (room .entry)) (now (page .entry))) 0 board ⌝ }
+{
+    let held = board.first.held;
+    let w = board.settings;
+    let s = step(&mut board.first.bytes, held, chunk, w, room, page);
+    board.first.held = s.held;
+    board.settings.baud = s.settings.baud;
+    board.settings.accelerometer = s.settings.accelerometer;
+    board.settings.gyroscope = s.settings.gyroscope;
+    Fed {
+        number: s.number,
+        taken: s.taken,
+        skipped: s.skipped,
+        saved: s.saved,
+        board,
+    }
+}
+
+// A feed of its second port.
+fn feed_second(mut board: Board, chunk: &[u8], room: &mut [u8], page: &mut [u8]) -> Fed
+    requires { ⌜ board .second .held ≤ 260 ⌝ }
+    ensures { λ r. ⌜ record { answer = r; room = now (room .exit); page = now (page .exit) } ≡ feedOn (stepOf (heldBytes (board .second)) (board .settings) (now (chunk .entry)) (now (room .entry)) (now (page .entry))) 1 board ⌝ }
+{
+    let held = board.second.held;
+    let w = board.settings;
+    let s = step(&mut board.second.bytes, held, chunk, w, room, page);
+    board.second.held = s.held;
+    board.settings.baud = s.settings.baud;
+    board.settings.accelerometer = s.settings.accelerometer;
+    board.settings.gyroscope = s.settings.gyroscope;
+    Fed {
+        number: s.number,
+        taken: s.taken,
+        skipped: s.skipped,
+        saved: s.saved,
+        board,
+    }
+}
+
+// Feeds a chunk to a port: takes bytes up to the end of the first message, handles it and writes the reply to the front
+// of `room`, or takes the whole chunk where there is none. A refused feed changes nothing.
+pub fn feed(port: u8, board: Board, chunk: &[u8], room: &mut [u8], page: &mut [u8]) -> Fed
+    ensures { λ r. ⌜ record { answer = r; room = now (room .exit); page = now (page .exit) } ≡ feedOf port board (now (chunk .entry)) (now (room .entry)) (now (page .entry)) ⌝ }
+{
+    let number = feed_number(
+        port,
+        board.first.held,
+        board.second.held,
+        board.settings,
+        room,
+        page,
+    );
+    if number != 0 {
+        return Fed {
+            number,
+            taken: 0,
+            skipped: 0,
+            saved: false,
+            board,
+        };
+    }
+    if port == 0 {
+        return feed_first(board, chunk, room, page);
+    }
+    feed_second(board, chunk, room, page)
+}
