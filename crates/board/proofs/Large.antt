@@ -168,7 +168,7 @@ board-demand3 v cs a =
 
 -- ---- every page that starting accepts
 
-page-sound : (page : List ℕ) → pageNumber page ≡ 0 → sound page ≡ true
+pub page-sound : (page : List ℕ) → pageNumber page ≡ 0 → sound page ≡ true
 unfolding pageNumber
 page-sound page e = go (eqb (length page) pageSize) refl (sound page) refl
   where

@@ -1,8 +1,9 @@
+pub mod Feedings
 pub mod Follows
 pub mod Handles
 pub mod Kept
 pub mod Large
+pub mod Places
 pub mod Sampled
 pub mod Starts
-pub mod Places
 pub mod Steps

@@ -182,7 +182,7 @@ module _ (b : Board) (s : PortStep) (r : Stepped) (y room page : List ℕ) (e : 
 
 -- ---- the tests, then the port
 
-passes : (a : Bool) (n next : ℕ) → refuse a (suc n) next ≡ 0 → (a ≡ false) × (next ≡ 0)
+pub passes : (a : Bool) (n next : ℕ) → refuse a (suc n) next ≡ 0 → (a ≡ false) × (next ≡ 0)
 passes true n next h =
     let no : ⊥ = omega (arith, h) in
     absurd no

@@ -1,0 +1,351 @@
+-- Demand 1: any feed of any board, and lists of feeds from any sound board.
+use mathlib.Core.Bool.{Bool, true, false, _&&_, _||_, not}
+use mathlib.Core.List.{List, [], _∷_, _++_}
+use mathlib.Core.Option.{Option, none, some}
+use mathlib.Core.Path.{_≡_, refl, sym, ap, subst, _∙_}
+use Prim.Native.Nat.{ℕ, zero, suc, _+_, _-_, _≤_, _<_}
+use native.Mathlib.Omega.{arith}
+use native.Mathlib.Decide.{decLt}
+use lib.Dec.{eqb, ltb}
+use lib.ListN.{length, take, drop, length-append, length-take, length-drop}
+use borrow.Author.Tests.{lt-ltb, le-ltb, ltb-false, eq-eqb, ne-eqb}
+use Rattle.stream.proofs.Bools.{differ, or-neither}
+use Rattle.stream.specs.declared.Sought.{Sought}
+use Rattle.stream.specs.declared.Sought.the-variants.{Starved, Found}
+use Rattle.stream.specs.Seek.{seek, resume}
+use Rattle.stream.specs.Cutting.{Agrees, StarvedAt}
+use Rattle.message.specs.Front.{front, mostUndecided}
+use Rattle.message.proofs.Framed.{cutting-harmless}
+use Rattle.page.specs.declared.setting.Setting.{Setting}
+use Rattle.page.specs.Page.{pageSize}
+use Rattle.page.specs.Sound.{sound, pageNumber, savedPage}
+use Rattle.page.proofs.Pages.{sound-passes}
+use Rattle.command.specs.declared.settings.Settings.{Settings}
+use Rattle.command.specs.declared.command.Command.{Command}
+use Rattle.command.specs.Command.{commandOf}
+use Rattle.command.specs.Effects.{workingValue, effectOf}
+use Rattle.command.specs.Answer.{loadedFrom, isSave, pageAfter, settingsFrom, answering}
+use Rattle.command.specs.Handle.{settingsAllowed, replyRoom}
+use Rattle.command.proofs.Keeps.{factory-allowed}
+use Rattle.command.proofs.Pages.{loaded-stored, page-changes, answer-keeps}
+use Rattle.page.specs.declared.setting.Setting.the-variants.{Baud, Accelerometer, Gyroscope}
+use Rattle.board.specs.declared.board.Board.{Board}
+use Rattle.board.specs.declared.port.Port.{Port}
+use Rattle.board.specs.Port.{portRoom, heldBytes, portHolding, portOf, withPort}
+use Rattle.board.specs.Start.{factorySettings, freshBoard, startOn, startOf}
+use Rattle.board.specs.Feed.{Feeding, PortStep, refuse, unsound, feedNumber, refusedFeeding, stepOn, stepOf, feedOn, acceptOn, feedOf}
+use Rattle.board.specs.Runs.{Call, callsFrom}
+use Rattle.board.specs.Theorems.{isSound, otherPort, FirstNumber, FirstNumbers, PortsAfter, PageSaved, FeedKeeps, FeedsKeep, StartsSound, runNumber, runNumbers, StaySound, RunsStaySound}
+use Rattle.board.proofs.Follows.{holding}
+use Rattle.board.proofs.Large.{page-sound}
+use Rattle.board.proofs.Places.{passes, resume-past}
+
+-- ---- soundness, taken apart and put together
+
+not-not : (t : Bool) → not t ≡ true → t ≡ false
+not-not true e = differ (sym e)
+not-not false e = refl
+
+pub record SoundParts (first second : ℕ) (w : Settings) : Type 0 where
+  pub first-few : first ≤ portRoom
+  pub second-few : second ≤ portRoom
+  pub allowed-settings : settingsAllowed w ≡ true
+
+parts : (first second : ℕ) (w : Settings) → unsound first second w ≡ false → SoundParts first second w
+unfolding unsound
+parts first second w e =
+    let o = or-neither (ltb portRoom first || ltb portRoom second) (not (settingsAllowed w)) e in
+    let q = or-neither (ltb portRoom first) (ltb portRoom second) (o .0) in
+    record { first-few = ltb-false portRoom first (q .0); second-few = ltb-false portRoom second (q .1); allowed-settings = is-true (settingsAllowed w) (o .1) }
+  where
+    is-true : (t : Bool) → not t ≡ false → t ≡ true
+    is-true true e = refl
+    is-true false e = differ e
+
+joined : (first second : ℕ) (w : Settings) → SoundParts first second w → not (unsound first second w) ≡ true
+unfolding unsound
+joined first second w p = rw (le-ltb portRoom first (p .first-few), le-ltb portRoom second (p .second-few), p .allowed-settings)
+
+-- ---- a step
+
+module _ (held : List ℕ) (w : Settings) (chunk room page : List ℕ) where
+  -- What stays held fits the port.
+  step-few : length held ≤ portRoom → length (stepOf held w chunk room page .held) ≤ portRoom
+  unfolding stepOf
+  step-few few = go (seek front (held ++ chunk)) refl
+    where
+      go : (q : Sought) → seek front (held ++ chunk) ≡ q → length (stepOn q held w chunk room page .held) ≤ portRoom
+      go (Starved k) e =
+          let s : StarvedAt front mostUndecided (held ++ chunk) k = subst (Agrees front mostUndecided (held ++ chunk)) e (cutting-harmless .agrees (held ++ chunk)) in
+          s .few
+      go (Found k n good) e =
+          let s = cutting-harmless .found-sized (held ++ chunk) k n good e in
+          let visible : List ℕ = held ++ take (k + n - length held) chunk in
+          let r : suc k ≤ resume k n good = resume-past k n (s .some) good in
+          omega (arith, few, r, s .most, s .inside, length-drop (resume k n good) visible, length-append held (take (k + n - length held) chunk), length-take (k + n - length held) chunk)
+
+  -- An accepted step answers 0 or 1.
+  step-number : stepOf held w chunk room page .number ≤ 1
+  unfolding stepOf
+  step-number = go (seek front (held ++ chunk))
+    where
+      go : (q : Sought) → stepOn q held w chunk room page .number ≤ 1
+      go (Starved k) = omega arith
+      go (Found k n good) = omega arith
+
+  -- What it does to the settings and the page.
+  record StepSaved (after : List ℕ) : Type 0 where
+    setting : Setting
+    written : after ≡ savedPage page setting (workingValue w setting)
+
+  record StepKeeps (s : PortStep) : Type 0 where
+    settings-allowed : settingsAllowed (s .settings) ≡ true
+    page-kept-sound : sound (s .page) ≡ true
+    unsaved : s .saved ≡ false → s .page ≡ page
+    saved : s .saved ≡ true → StepSaved (s .page)
+
+  saved-page : (saves : Option Setting) → sound page ≡ true → settingsAllowed w ≡ true → isSave saves ≡ true → StepSaved (pageAfter saves w page)
+  saved-page none h a e = differ (sym e)
+  saved-page (some s) h a e = record { setting = s; written = page-changes (some s) w page h a .saved-page }
+
+  answer-saved : (c : Command) → sound page ≡ true → settingsAllowed w ≡ true → answering c w room page .answer .saved ≡ true → StepSaved (answering c w room page .page)
+  unfolding answering
+  answer-saved c h a e = saved-page (effectOf (loadedFrom page) w c .saves) h a e
+
+  step-keeps : sound page ≡ true → settingsAllowed w ≡ true → StepKeeps (stepOf held w chunk room page)
+  unfolding stepOf
+  step-keeps h a = go (seek front (held ++ chunk))
+    where
+      go : (q : Sought) → StepKeeps (stepOn q held w chunk room page)
+      go (Starved k) = record { settings-allowed = a; page-kept-sound = h; unsaved = λ e. refl; saved = λ e. differ (sym e) }
+      go (Found k n good) =
+          let c : Command = commandOf good (drop k (held ++ chunk)) in
+          let t = answer-keeps c w room page h a in
+          record { settings-allowed = t .settings-allowed; page-kept-sound = t .page-sound; unsaved = t .unsaved; saved = answer-saved c h a }
+
+-- ---- a feed
+
+-- What passing all tests says.
+record Passed (port : ℕ) (b : Board) (room page : List ℕ) : Type 0 where
+  few-ports : port ≤ 1
+  sound-board : unsound (b .first .held) (b .second .held) (b .settings) ≡ false
+  large-room : replyRoom ≤ length room
+  passing-page : pageNumber page ≡ 0
+
+passed : (port : ℕ) (b : Board) (room page : List ℕ) → feedNumber port (b .first .held) (b .second .held) (b .settings) room page ≡ 0 → Passed port b room page
+unfolding feedNumber
+passed port b room page e =
+    let t : (ltb 1 port ≡ false) × _ = passes (ltb 1 port) 15 _ e in
+    let u : (unsound (b .first .held) (b .second .held) (b .settings) ≡ false) × _ = passes (unsound (b .first .held) (b .second .held) (b .settings)) 16 _ (t .1) in
+    let r : (ltb (length room) replyRoom ≡ false) × _ = passes (ltb (length room) replyRoom) 17 _ (u .1) in
+    record { few-ports = ltb-false 1 port (t .0); sound-board = u .0; large-room = ltb-false (length room) replyRoom (r .0); passing-page = r .1 }
+
+-- The board with the fed port anew.
+held-few : (p : Port) → p .held ≤ portRoom → length (heldBytes p) ≤ portRoom
+held-few p h = omega (arith, h, length-take (p .held) (p .bytes))
+
+with-sound : (port : ℕ) (b : Board) (bs : List ℕ) (w : Settings) → SoundParts (b .first .held) (b .second .held) (b .settings) → length bs ≤ portRoom → settingsAllowed w ≡ true
+    → isSound (withPort port b (portHolding bs) w) ≡ true
+unfolding portHolding
+with-sound zero b bs w p l a = joined (length bs) (b .second .held) w (record { first-few = l; second-few = p .second-few; allowed-settings = a })
+with-sound (suc q) b bs w p l a = joined (b .first .held) (length bs) w (record { first-few = p .first-few; second-few = l; allowed-settings = a })
+
+port-few : (port : ℕ) (b : Board) → SoundParts (b .first .held) (b .second .held) (b .settings) → length (heldBytes (portOf port b)) ≤ portRoom
+port-few zero b p = held-few (b .first) (p .first-few)
+port-few (suc q) b p = held-few (b .second) (p .second-few)
+
+with-fed : (port : ℕ) (b : Board) (bs : List ℕ) (w : Settings) → portOf port (withPort port b (portHolding bs) w) ≡ portHolding (heldBytes (portOf port (withPort port b (portHolding bs) w)))
+with-fed zero b bs w = ap portHolding (sym (holding bs))
+with-fed (suc q) b bs w = ap portHolding (sym (holding bs))
+
+with-other : (port : ℕ) (b : Board) (p : Port) (w : Settings) → portOf (otherPort port) (withPort port b p w) ≡ portOf (otherPort port) b
+with-other zero b p w = refl
+with-other (suc q) b p w = refl
+
+module _ (port : ℕ) (b : Board) (chunk room page : List ℕ) where
+  -- The same statement of a feeding that is given.
+  record KeptBy (f : Feeding) : Type 0 where
+    refused : 1 < f .answer .number → f ≡ refusedFeeding (f .answer .number) b room page
+    fed-port : f .answer .number ≤ 1 → portOf port (f .answer .board) ≡ portHolding (heldBytes (portOf port (f .answer .board)))
+    other-port : f .answer .number ≤ 1 → portOf (otherPort port) (f .answer .board) ≡ portOf (otherPort port) b
+    saved : f .answer .saved ≡ true → StepSaved (heldBytes (portOf port b)) (b .settings) chunk room page (f .page)
+    unsaved : f .answer .saved ≡ false → f .page ≡ page
+    board-sound : isSound b ≡ true → isSound (f .answer .board) ≡ true
+    page-stays : pageNumber page ≡ 0 → pageNumber (f .page) ≡ 0
+
+  refused-keeps : (n : ℕ) → 1 < n → KeptBy (refusedFeeding n b room page)
+  refused-keeps n h =
+      record {
+        refused = λ k. refl;
+        fed-port = λ k. (let no : ⊥ = omega (arith, h, k) in absurd no);
+        other-port = λ k. refl;
+        saved = λ e. differ (sym e);
+        unsaved = λ e. refl;
+        board-sound = λ s. s;
+        page-stays = λ p. p;
+      }
+
+  abbrev this : PortStep
+  this = stepOf (heldBytes (portOf port b)) (b .settings) chunk room page
+
+  accepted-keeps : Passed port b room page → KeptBy (feedOn this port b)
+  accepted-keeps p =
+      let s = parts (b .first .held) (b .second .held) (b .settings) (p .sound-board) in
+      let h : sound page ≡ true = page-sound page (p .passing-page) in
+      let k = step-keeps (heldBytes (portOf port b)) (b .settings) chunk room page h (s .allowed-settings) in
+      let few = step-few (heldBytes (portOf port b)) (b .settings) chunk room page (port-few port b s) in
+      let n = step-number (heldBytes (portOf port b)) (b .settings) chunk room page in
+      record {
+        refused = λ l. (let no : ⊥ = omega (arith, n, l) in absurd no);
+        fed-port = λ l. with-fed port b (this .held) (this .settings);
+        other-port = λ l. with-other port b (portHolding (this .held)) (this .settings);
+        saved = k .saved;
+        unsaved = k .unsaved;
+        board-sound = λ e. with-sound port b (this .held) (this .settings) s few (k .settings-allowed);
+        page-stays = λ e. sound-passes (this .page) (k .page-kept-sound);
+      }
+
+  -- A number of the tests is 0, or one from 16 on.
+  abbrev number : ℕ
+  number = feedNumber port (b .first .held) (b .second .held) (b .settings) room page
+
+  by-number : (n : ℕ) → number ≡ n → (n ≡ 0 → ⊥) → 1 < n
+  unfolding feedNumber pageNumber
+  by-number n e z =
+      go (ltb 1 port) (unsound (b .first .held) (b .second .held) (b .settings)) (ltb (length room) replyRoom) (not (eqb (length page) pageSize)) (not (sound page)) n e z
+    where
+      go : (p u r l s : Bool) (n : ℕ) → refuse p 16 (refuse u 17 (refuse r 18 (refuse l 19 (refuse s 20 0)))) ≡ n → (n ≡ 0 → ⊥) → 1 < n
+      go true u r l s n e z = omega (arith, e)
+      go false true r l s n e z = omega (arith, e)
+      go false false true l s n e z = omega (arith, e)
+      go false false false true s n e z = omega (arith, e)
+      go false false false false true n e z = omega (arith, e)
+      go false false false false false n e z = absurd (z (sym e))
+
+  kept-by : KeptBy (feedOf port b chunk room page)
+  unfolding feedOf
+  kept-by = go number refl
+    where
+      go : (n : ℕ) → number ≡ n → KeptBy (acceptOn n port b chunk room page)
+      go zero e = accepted-keeps (passed port b room page e)
+      go (suc n) e = refused-keeps (suc n) (by-number (suc n) e (λ z. (let no : ⊥ = omega (arith, z) in absurd no)))
+
+pub feeds-keep : FeedsKeep
+feeds-keep port b chunk room page =
+    let k = kept-by port b chunk room page in
+    record {
+      refused = k .refused;
+      ports = λ l. record { fed-port = k .fed-port l; other-port = k .other-port l };
+      saved = λ e. (let s = k .saved e in record { setting = s .setting; written = s .written });
+      unsaved = k .unsaved;
+      board-sound = k .board-sound;
+      page-sound = k .page-stays;
+    }
+
+-- ---- the first number that applies
+
+page-19 : (page : List ℕ) → (length page ≡ pageSize → ⊥) → pageNumber page ≡ 19
+unfolding pageNumber
+page-19 page h = rw (ne-eqb (length page) pageSize h)
+
+page-20 : (page : List ℕ) → length page ≡ pageSize → sound page ≡ false → pageNumber page ≡ 20
+unfolding pageNumber
+page-20 page l s = rw (eq-eqb (length page) pageSize l, s)
+
+page-0 : (page : List ℕ) → length page ≡ pageSize → sound page ≡ true → pageNumber page ≡ 0
+unfolding pageNumber
+page-0 page l s = rw (eq-eqb (length page) pageSize l, s)
+
+module _ (port : ℕ) (b : Board) (chunk room page : List ℕ) where
+  told : (n : ℕ) → feedNumber port (b .first .held) (b .second .held) (b .settings) room page ≡ suc n → feedOf port b chunk room page .answer .number ≡ suc n
+  unfolding feedOf
+  told n e = rw e
+
+  not-sound : isSound b ≡ false → unsound (b .first .held) (b .second .held) (b .settings) ≡ true
+  not-sound e = go (unsound (b .first .held) (b .second .held) (b .settings)) e
+    where
+      go : (u : Bool) → not u ≡ false → u ≡ true
+      go true e = refl
+      go false e = differ e
+
+  is-sound : isSound b ≡ true → unsound (b .first .held) (b .second .held) (b .settings) ≡ false
+  is-sound e = not-not (unsound (b .first .held) (b .second .held) (b .settings)) e
+
+  number-port : 1 < port → feedNumber port (b .first .held) (b .second .held) (b .settings) room page ≡ 16
+  unfolding feedNumber
+  number-port h = rw (lt-ltb 1 port h)
+
+  number-board : port ≤ 1 → isSound b ≡ false → feedNumber port (b .first .held) (b .second .held) (b .settings) room page ≡ 17
+  unfolding feedNumber
+  number-board p u = rw (le-ltb 1 port p, not-sound u)
+
+  number-room : port ≤ 1 → isSound b ≡ true → length room < replyRoom → feedNumber port (b .first .held) (b .second .held) (b .settings) room page ≡ 18
+  unfolding feedNumber
+  number-room p u r = rw (le-ltb 1 port p, is-sound u, lt-ltb (length room) replyRoom r)
+
+  number-page : port ≤ 1 → isSound b ≡ true → replyRoom ≤ length room → feedNumber port (b .first .held) (b .second .held) (b .settings) room page ≡ pageNumber page
+  unfolding feedNumber
+  number-page p u r = rw (le-ltb 1 port p, is-sound u, le-ltb (length room) replyRoom r)
+
+  accepted-number : feedNumber port (b .first .held) (b .second .held) (b .settings) room page ≡ 0 → feedOf port b chunk room page .answer .number ≤ 1
+  unfolding feedOf
+  accepted-number e = rw e (step-number (heldBytes (portOf port b)) (b .settings) chunk room page)
+
+  pub first-number : FirstNumber port b chunk room page
+  first-number =
+      record {
+        wrong-port = λ h. told 15 (number-port h);
+        unsound-board = λ p u. told 16 (number-board p u);
+        small-room = λ p u r. told 17 (number-room p u r);
+        wrong-length = λ p u r l. told 18 (number-page p u r ∙ page-19 page l);
+        unsound-page = λ p u r l s. told 19 (number-page p u r ∙ page-20 page l s);
+        accepted = λ p u r l s. accepted-number (number-page p u r ∙ page-0 page l s);
+      }
+
+pub first-numbers : FirstNumbers
+first-numbers = first-number
+
+-- ---- starting
+
+factory-sound : settingsAllowed factorySettings ≡ true
+unfolding settingsAllowed
+factory-sound = rw (factory-allowed Baud, factory-allowed Accelerometer, factory-allowed Gyroscope)
+
+loaded-sound : (page : List ℕ) → sound page ≡ true → settingsAllowed (settingsFrom page) ≡ true
+unfolding settingsAllowed settingsFrom
+loaded-sound page h = rw (loaded-stored page Baud h .value-allowed, loaded-stored page Accelerometer h .value-allowed, loaded-stored page Gyroscope h .value-allowed)
+
+fresh-sound : (w : Settings) → settingsAllowed w ≡ true → isSound (freshBoard w) ≡ true
+fresh-sound w a = joined 0 0 w (record { first-few = omega arith; second-few = omega arith; allowed-settings = a })
+
+pub starts-sound : StartsSound
+unfolding startOf
+starts-sound page = go (pageNumber page) refl
+  where
+    go : (n : ℕ) → pageNumber page ≡ n → isSound (startOn n page .board) ≡ true
+    go zero e = fresh-sound (settingsFrom page) (loaded-sound page (page-sound page e))
+    go (suc n) e = fresh-sound factorySettings factory-sound
+
+-- ---- lists of feeds
+
+run-number : (port : ℕ) (b : Board) (chunk room page : List ℕ) → isSound b ≡ true → pageNumber page ≡ 0 → runNumber (feedOf port b chunk room page .answer .number) ≡ true
+run-number port b chunk room page s p = go (decLt 1 port) (decLt (length room) replyRoom)
+  where
+    accepted : (n : ℕ) → n ≤ 1 → runNumber n ≡ true
+    accepted zero h = refl
+    accepted (suc zero) h = refl
+    accepted (suc (suc n)) h = let no : ⊥ = omega (arith, h) in absurd no
+
+    go : Dec (1 < port) → Dec (length room < replyRoom) → runNumber (feedOf port b chunk room page .answer .number) ≡ true
+    go (yes h) r = rw (first-number port b chunk room page .wrong-port h)
+    go (no h) (yes r) = rw (first-number port b chunk room page .small-room (omega arith) s r)
+    go (no h) (no r) = accepted _ (accepted-number port b chunk room page (number-page port b chunk room page (omega arith) s (omega arith) ∙ p))
+
+pub runs-stay-sound : RunsStaySound
+unfolding callsFrom
+runs-stay-sound b page [] s p = record { numbers = refl; board-sound = s; page-sound = p }
+runs-stay-sound b page (c ∷ cs) s p =
+    let k = feeds-keep (c .port) b (c .chunk) (c .room) page in
+    let f : Feeding = feedOf (c .port) b (c .chunk) (c .room) page in
+    let rest = runs-stay-sound (f .answer .board) (f .page) cs (k .board-sound s) (k .page-sound p) in
+    record { numbers = rw (run-number (c .port) b (c .chunk) (c .room) page s p) (rest .numbers); board-sound = rest .board-sound; page-sound = rest .page-sound }
