@@ -8,14 +8,18 @@ use native.Mathlib.Omega.{arith}
 use native.Mathlib.Decide.{decLt}
 use lib.Dec.{eqb, ltb}
 use lib.ListN.{length, take, drop, length-append, length-take, length-drop}
+use lib.Seq.{length-take-le}
 use borrow.Author.Tests.{lt-ltb, le-ltb, ltb-false, eq-eqb, ne-eqb}
 use Rattle.stream.proofs.Bools.{differ, or-neither}
 use Rattle.stream.specs.declared.Sought.{Sought}
 use Rattle.stream.specs.declared.Sought.the-variants.{Starved, Found}
-use Rattle.stream.specs.Seek.{seek, resume}
+use Rattle.stream.specs.Scan.{goodAt}
+use Rattle.stream.specs.Seek.{seek, resume, skippedBy}
 use Rattle.stream.specs.Cutting.{Agrees, StarvedAt}
 use Rattle.message.specs.Front.{front, mostUndecided}
+use Rattle.message.specs.Whole.{wholeNumber}
 use Rattle.message.proofs.Framed.{cutting-harmless}
+use Rattle.message.proofs.RoundTrips.{written-is-read}
 use Rattle.page.specs.declared.setting.Setting.{Setting}
 use Rattle.page.specs.Page.{pageSize}
 use Rattle.page.specs.Sound.{sound, pageNumber, savedPage}
@@ -23,21 +27,23 @@ use Rattle.page.proofs.Pages.{sound-passes}
 use Rattle.command.specs.declared.settings.Settings.{Settings}
 use Rattle.command.specs.declared.command.Command.{Command}
 use Rattle.command.specs.Command.{commandOf}
-use Rattle.command.specs.Effects.{workingValue, effectOf}
+use Rattle.command.specs.Errors.{errorOf}
+use Rattle.command.specs.Effects.{workingValue, effectOf, replyPayload, replyOf}
 use Rattle.command.specs.Answer.{loadedFrom, isSave, pageAfter, settingsFrom, answering}
 use Rattle.command.specs.Handle.{settingsAllowed, replyRoom}
-use Rattle.command.proofs.Keeps.{factory-allowed}
-use Rattle.command.proofs.Pages.{loaded-stored, page-changes, answer-keeps}
+use Rattle.command.proofs.Keeps.{factory-allowed, effect-row, reply-fits}
+use Rattle.command.proofs.Pages.{loaded-stored, page-changes, reply-whole, answer-keeps}
 use Rattle.page.specs.declared.setting.Setting.the-variants.{Baud, Accelerometer, Gyroscope}
 use Rattle.board.specs.declared.board.Board.{Board}
+use Rattle.board.specs.declared.board.Started.{Started}
 use Rattle.board.specs.declared.port.Port.{Port}
 use Rattle.board.specs.Port.{portRoom, heldBytes, portHolding, portOf, withPort}
 use Rattle.board.specs.Start.{factorySettings, freshBoard, startOn, startOf}
-use Rattle.board.specs.Feed.{Feeding, PortStep, refuse, unsound, feedNumber, refusedFeeding, stepOn, stepOf, feedOn, acceptOn, feedOf}
+use Rattle.board.specs.Feed.{Feeding, PortStep, refuse, unsound, feedNumber, refusedFeeding, leftOf, stepOn, stepOf, feedOn, acceptOn, feedOf}
 use Rattle.board.specs.Runs.{Call, callsFrom}
-use Rattle.board.specs.Theorems.{isSound, otherPort, FirstNumber, FirstNumbers, PortsAfter, PageSaved, FeedKeeps, FeedsKeep, StartsSound, runNumber, runNumbers, StaySound, RunsStaySound}
+use Rattle.board.specs.AnyBoard.{isSound, otherPort, goodLength, FirstNumber, FirstNumbers, PortsAfter, PageSaved, ReplyIn, NothingWritten, FeedKeeps, FeedsKeep, StartKeeps, StartsKeep, runNumber, runNumbers, StaySound, RunsStaySound}
 use Rattle.board.proofs.Follows.{holding}
-use Rattle.board.proofs.Large.{page-sound}
+use Rattle.board.proofs.Reckons.{page-sound}
 use Rattle.board.proofs.Places.{passes, resume-past}
 
 -- ---- soundness, taken apart and put together
@@ -123,6 +129,75 @@ module _ (held : List ℕ) (w : Settings) (chunk room page : List ℕ) where
           let t = answer-keeps c w room page h a in
           record { settings-allowed = t .settings-allowed; page-kept-sound = t .page-sound; unsaved = t .unsaved; saved = answer-saved c h a }
 
+  -- What it reports: a whole reply, or nothing; and how its counts add up.
+  record StepReply (after : List ℕ) : Type 0 where
+    reply : List ℕ
+    whole : wholeNumber reply ≡ 0
+    fits : length reply ≤ replyRoom
+    room-after : after ≡ reply ++ drop (length reply) room
+
+  record StepTells (sought : Sought) (s : PortStep) : Type 0 where
+    reported : s .number ≡ 0 → StepReply (s .room)
+    room-same : s .number ≡ 1 → s .room ≡ room
+    page-same : s .number ≡ 1 → s .page ≡ page
+    settings-same : s .number ≡ 1 → s .settings ≡ w
+    sum : length held + s .taken ≡ goodLength sought + s .skipped + length (s .held)
+
+  one-not-zero : {A : Type 0} → _≡_ {A = ℕ} 1 0 → A
+  one-not-zero e = let no : ⊥ = omega (arith, e) in absurd no
+
+  zero-not-one : {A : Type 0} → _≡_ {A = ℕ} 0 1 → A
+  zero-not-one e = let no : ⊥ = omega (arith, e) in absurd no
+
+  answer-reply : (c : Command) → replyRoom ≤ length room → StepReply (answering c w room page .room)
+  unfolding replyOf
+  answer-reply c large =
+      let p : List ℕ = replyPayload c (errorOf c) (effectOf (loadedFrom page) w c .row) in
+      let few : length p ≤ 255 = omega (arith, effect-row (loadedFrom page) w c) in
+      record {
+        reply = replyOf (loadedFrom page) w c;
+        whole = written-is-read (c .kind) p few .whole;
+        fits = reply-fits (loadedFrom page) w c;
+        room-after = reply-whole c w room page large .room-after;
+      }
+
+  found-sum : (k n : ℕ) (good : Bool) → 1 ≤ n → k + n ≤ length held + length chunk
+      → length held + (k + n - length held) ≡ goodAt good n + skippedBy k good + length (leftOf k n good held chunk)
+  found-sum k n good s i =
+      let visible : List ℕ = held ++ take (k + n - length held) chunk in
+      let t : length (take (k + n - length held) chunk) ≡ k + n - length held = length-take-le (k + n - length held) chunk (omega arith) in
+      let l : length visible ≡ length held + (k + n - length held) = length-append held (take (k + n - length held) chunk) ∙ ap (λ (i : ℕ). length held + i) t in
+      go good (length-drop (resume k n good) visible ∙ ap (λ (i : ℕ). i - resume k n good) l)
+    where
+      go : (good : Bool) → length (leftOf k n good held chunk) ≡ length held + (k + n - length held) - resume k n good
+          → length held + (k + n - length held) ≡ goodAt good n + skippedBy k good + length (leftOf k n good held chunk)
+      go true e = omega (arith, s, e)
+      go false e = omega (arith, s, e)
+
+  step-tells : replyRoom ≤ length room → StepTells (seek front (held ++ chunk)) (stepOf held w chunk room page)
+  unfolding stepOf
+  step-tells large = go (seek front (held ++ chunk)) refl
+    where
+      go : (q : Sought) → seek front (held ++ chunk) ≡ q → StepTells q (stepOn q held w chunk room page)
+      go (Starved k) e =
+          let s : StarvedAt front mostUndecided (held ++ chunk) k = subst (Agrees front mostUndecided (held ++ chunk)) e (cutting-harmless .agrees (held ++ chunk)) in
+          record {
+            reported = one-not-zero;
+            room-same = λ z. refl;
+            page-same = λ z. refl;
+            settings-same = λ z. refl;
+            sum = omega (arith, s .inside, length-append held chunk, length-drop k (held ++ chunk));
+          }
+      go (Found k n good) e =
+          let s = cutting-harmless .found-sized (held ++ chunk) k n good e in
+          record {
+            reported = λ z. answer-reply (commandOf good (drop k (held ++ chunk))) large;
+            room-same = zero-not-one;
+            page-same = zero-not-one;
+            settings-same = zero-not-one;
+            sum = found-sum k n good (s .some) (omega (arith, s .inside, length-append held chunk));
+          }
+
 -- ---- a feed
 
 -- What passing all tests says.
@@ -158,6 +233,14 @@ with-fed : (port : ℕ) (b : Board) (bs : List ℕ) (w : Settings) → portOf po
 with-fed zero b bs w = ap portHolding (sym (holding bs))
 with-fed (suc q) b bs w = ap portHolding (sym (holding bs))
 
+with-held : (port : ℕ) (b : Board) (bs : List ℕ) (w : Settings) → heldBytes (portOf port (withPort port b (portHolding bs) w)) ≡ bs
+with-held zero b bs w = holding bs
+with-held (suc q) b bs w = holding bs
+
+with-settings : (port : ℕ) (b : Board) (p : Port) (w : Settings) → withPort port b p w .settings ≡ w
+with-settings zero b p w = refl
+with-settings (suc q) b p w = refl
+
 with-other : (port : ℕ) (b : Board) (p : Port) (w : Settings) → portOf (otherPort port) (withPort port b p w) ≡ portOf (otherPort port) b
 with-other zero b p w = refl
 with-other (suc q) b p w = refl
@@ -172,6 +255,12 @@ module _ (port : ℕ) (b : Board) (chunk room page : List ℕ) where
     unsaved : f .answer .saved ≡ false → f .page ≡ page
     board-sound : isSound b ≡ true → isSound (f .answer .board) ≡ true
     page-stays : pageNumber page ≡ 0 → pageNumber (f .page) ≡ 0
+    reported : f .answer .number ≡ 0 → StepReply (heldBytes (portOf port b)) (b .settings) chunk room page (f .room)
+    room-same : f .answer .number ≡ 1 → f .room ≡ room
+    page-same : f .answer .number ≡ 1 → f .page ≡ page
+    settings-same : f .answer .number ≡ 1 → f .answer .board .settings ≡ b .settings
+    sum : f .answer .number ≤ 1 → length (heldBytes (portOf port b)) + f .answer .taken
+        ≡ goodLength (seek front (heldBytes (portOf port b) ++ chunk)) + f .answer .skipped + length (heldBytes (portOf port (f .answer .board)))
 
   refused-keeps : (n : ℕ) → 1 < n → KeptBy (refusedFeeding n b room page)
   refused-keeps n h =
@@ -183,6 +272,11 @@ module _ (port : ℕ) (b : Board) (chunk room page : List ℕ) where
         unsaved = λ e. refl;
         board-sound = λ s. s;
         page-stays = λ p. p;
+        reported = λ k. (let no : ⊥ = omega (arith, h, k) in absurd no);
+        room-same = λ k. refl;
+        page-same = λ k. refl;
+        settings-same = λ k. refl;
+        sum = λ k. (let no : ⊥ = omega (arith, h, k) in absurd no);
       }
 
   abbrev this : PortStep
@@ -193,6 +287,7 @@ module _ (port : ℕ) (b : Board) (chunk room page : List ℕ) where
       let s = parts (b .first .held) (b .second .held) (b .settings) (p .sound-board) in
       let h : sound page ≡ true = page-sound page (p .passing-page) in
       let k = step-keeps (heldBytes (portOf port b)) (b .settings) chunk room page h (s .allowed-settings) in
+      let t = step-tells (heldBytes (portOf port b)) (b .settings) chunk room page (p .large-room) in
       let few = step-few (heldBytes (portOf port b)) (b .settings) chunk room page (port-few port b s) in
       let n = step-number (heldBytes (portOf port b)) (b .settings) chunk room page in
       record {
@@ -203,6 +298,11 @@ module _ (port : ℕ) (b : Board) (chunk room page : List ℕ) where
         unsaved = k .unsaved;
         board-sound = λ e. with-sound port b (this .held) (this .settings) s few (k .settings-allowed);
         page-stays = λ e. sound-passes (this .page) (k .page-kept-sound);
+        reported = t .reported;
+        room-same = t .room-same;
+        page-same = t .page-same;
+        settings-same = λ e. with-settings port b (portHolding (this .held)) (this .settings) ∙ t .settings-same e;
+        sum = λ l. rw (with-held port b (this .held) (this .settings)) (t .sum);
       }
 
   -- A number of the tests is 0, or one from 16 on.
@@ -236,6 +336,9 @@ feeds-keep port b chunk room page =
     record {
       refused = k .refused;
       ports = λ l. record { fed-port = k .fed-port l; other-port = k .other-port l };
+      reported = λ e. (let r = k .reported e in record { reply = r .reply; whole = r .whole; fits = r .fits; room-after = r .room-after });
+      used-up = λ e. record { room-same = k .room-same e; page-same = k .page-same e; settings-same = k .settings-same e };
+      sum = k .sum;
       saved = λ e. (let s = k .saved e in record { setting = s .setting; written = s .written });
       unsaved = k .unsaved;
       board-sound = k .board-sound;
@@ -318,13 +421,26 @@ loaded-sound page h = rw (loaded-stored page Baud h .value-allowed, loaded-store
 fresh-sound : (w : Settings) → settingsAllowed w ≡ true → isSound (freshBoard w) ≡ true
 fresh-sound w a = joined 0 0 w (record { first-few = omega arith; second-few = omega arith; allowed-settings = a })
 
-pub starts-sound : StartsSound
+start-with : (page : List ℕ) (n : ℕ) → pageNumber page ≡ n → startOf page ≡ startOn n page
 unfolding startOf
-starts-sound page = go (pageNumber page) refl
+start-with page n e = rw e
+
+started-sound : (page : List ℕ) → isSound (startOf page .board) ≡ true
+unfolding startOf
+started-sound page = go (pageNumber page) refl
   where
     go : (n : ℕ) → pageNumber page ≡ n → isSound (startOn n page .board) ≡ true
     go zero e = fresh-sound (settingsFrom page) (loaded-sound page (page-sound page e))
     go (suc n) e = fresh-sound factorySettings factory-sound
+
+pub starts-keep : StartsKeep
+starts-keep page =
+    record {
+      wrong-length = λ h. start-with page 19 (page-19 page h);
+      unsound-page = λ l s. start-with page 20 (page-20 page l s);
+      started = λ l s. ap (λ (r : Started). r .number) (start-with page 0 (page-0 page l s));
+      board-sound = started-sound page;
+    }
 
 -- ---- lists of feeds
 

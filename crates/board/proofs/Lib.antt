@@ -2,8 +2,8 @@ pub mod Feedings
 pub mod Follows
 pub mod Handles
 pub mod Kept
-pub mod Large
 pub mod Places
+pub mod Reckons
 pub mod Sampled
 pub mod Starts
 pub mod Steps

@@ -56,12 +56,13 @@ pub record PortStep : Type 0 where
   pub room : List ℕ
   pub page : List ℕ
 
--- What a message behind k bytes, n long, leaves of the bytes held and of those taken up to its end.
+-- What a message behind k bytes, n long, leaves of the bytes held and of those taken up to its end. (`-` gives 0 where all of it
+-- was held.)
 abbrev pub leftOf : ℕ → ℕ → Bool → List ℕ → List ℕ → List ℕ
 leftOf k n good held chunk = drop (resume k n good) (held ++ take (k + n - length held) chunk)
 
--- A message is found behind k bytes of those held and then the chunk, n long: bytes are taken up to its end, it is handled,
--- and what is left of the bytes held and taken stays held. Nothing is found: the whole chunk is taken, and what the seek
+-- A message is found behind k bytes of those held and then the chunk, n long: bytes are taken up to its end, it is handled (by
+-- its own bytes: `OwnBytes` in crate command), and what is left of the bytes held and taken stays held. Nothing is found: the whole chunk is taken, and what the seek
 -- left undecided stays held.
 abbrev pub stepOn : Sought → List ℕ → Settings → List ℕ → List ℕ → List ℕ → PortStep
 stepOn (Found k n good) held w chunk room page =
@@ -88,6 +89,7 @@ stepOn (Starved k) held w chunk room page =
       page = page;
     }
 
+-- An accepted feed of a port that holds some bytes.
 unfoldable pub stepOf : List ℕ → Settings → List ℕ → List ℕ → List ℕ → PortStep
 stepOf held w chunk room page = stepOn (seek front (held ++ chunk)) held w chunk room page
 
@@ -110,6 +112,7 @@ abbrev pub acceptOn : ℕ → ℕ → Board → List ℕ → List ℕ → List �
 acceptOn zero port b chunk room page = feedOn (stepOf (heldBytes (portOf port b)) (b .settings) chunk room page) port b
 acceptOn (suc n) port b chunk room page = refusedFeeding (suc n) b room page
 
+-- A feed: the tests, then the named port.
 unfoldable pub feedOf : ℕ → Board → List ℕ → List ℕ → List ℕ → Feeding
 feedOf port b chunk room page = acceptOn (feedNumber port (b .first .held) (b .second .held) (b .settings) room page) port b chunk room page
 

@@ -44,6 +44,7 @@ abbrev pub valuesAfter : Option Setting → Settings → Values → Values
 valuesAfter none w v = v
 valuesAfter (some s) w v = withValue v s (workingValue w s)
 
+-- A message handled on the values kept.
 unfoldable pub reckonMessage : ℕ → Reckoned → Message → Outcome Reckoned
 reckonMessage port x m =
     let c : Command = commandOf (m .good) (m .bytes) in
@@ -56,10 +57,12 @@ reckonMessage port x m =
 
 -- ---- the board
 
+-- The working values, and the page.
 pub record Kept : Type 0 where
   pub settings : Settings
   pub page : List ℕ
 
+-- A message handled on them.
 unfoldable pub handleMessage : ℕ → Kept → Message → Outcome Kept
 handleMessage port x m =
     let c : Command = commandOf (m .good) (m .bytes) in

@@ -1,3 +1,4 @@
+pub mod AnyBoard
 pub mod Feed
 pub mod Handling
 pub mod Port

@@ -2,12 +2,13 @@
 use Prim.Native.Nat.{ℕ, zero, suc, _-_}
 use mathlib.Core.List.{List, _++_}
 use lib.ListN.{length, take, replicate}
+use Rattle.message.specs.Front.{mostUndecided}
 use Rattle.command.specs.declared.settings.Settings.{Settings}
 use Rattle.board.specs.declared.port.Port.{Port}
 use Rattle.board.specs.declared.board.Board.{Board}
 
 abbrev pub portRoom : ℕ
-portRoom = 260
+portRoom = mostUndecided
 
 -- The bytes that a port holds.
 abbrev pub heldBytes : Port → List ℕ

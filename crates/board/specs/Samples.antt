@@ -6,7 +6,7 @@ use mathlib.Core.Path.{_≡_}
 use Prim.Native.Nat.{ℕ, zero, suc, _+_}
 use lib.ListN.{length, take, replicate}
 use Rattle.message.specs.Message.{lengthOf, messageOf}
-use Rattle.page.specs.Page.{noValues, filled}
+use Rattle.page.specs.Page.{noValues, blankPage}
 use Rattle.board.specs.Port.{heldBytes}
 use Rattle.board.specs.Feed.{Feeding}
 use Rattle.board.specs.Runs.{Call, Calls, callsOn}
@@ -37,12 +37,9 @@ saves taken reply = record { number = 0; taken = taken; skipped = 0; saved = tru
 abbrev ends : ℕ → ℕ → Out
 ends taken skipped = record { number = 1; taken = taken; skipped = skipped; saved = false; reply = [] }
 
-abbrev blank : List ℕ
-blank = filled []
-
 -- A line of one feed that takes its chunk whole and leaves nothing held and the page blank.
 abbrev line : List ℕ → List ℕ → Line
-line chunk reply = record { chunks = chunk ∷ []; outs = done (length chunk) 0 reply ∷ []; held = []; page = blank }
+line chunk reply = record { chunks = chunk ∷ []; outs = done (length chunk) 0 reply ∷ []; held = []; page = blankPage }
 
 abbrev ping : List ℕ
 ping = 0xA5 ∷ 0xA5 ∷ 0x01 ∷ 0x02 ∷ 0x02 ∷ 0x00 ∷ 0x4F ∷ 0x25 ∷ []
@@ -66,29 +63,42 @@ saveOf code = messageOf 0x02 (code ∷ 0x01 ∷ 0x03 ∷ [])
 
 abbrev pub samples : List Line
 samples =
+    -- P1
     line ping pinged
+    -- P2
     ∷ line (0xA5 ∷ 0xA5 ∷ 0x02 ∷ 0x04 ∷ 0x07 ∷ 0x02 ∷ 0x01 ∷ 0x02 ∷ 0x5C ∷ 0xF1 ∷ []) (answered 0x07 0x00 0xD9 0xDF)
+    -- P3
     ∷ line (0xA5 ∷ 0xA5 ∷ 0x02 ∷ 0x07 ∷ 0x01 ∷ 0x05 ∷ 0x01 ∷ 0x00 ∷ 0x01 ∷ 0xC2 ∷ 0x00 ∷ 0x1D ∷ 0x84 ∷ []) (answered 0x01 0x00 0xD3 0xD3)
+    -- P4
     ∷ line (0xA5 ∷ 0xA5 ∷ 0x02 ∷ 0x03 ∷ 0x08 ∷ 0x01 ∷ 0x02 ∷ 0x5A ∷ 0x93 ∷ [])
     (0xA5 ∷ 0xA5 ∷ 0x02 ∷ 0x07 ∷ 0x80 ∷ 0x02 ∷ 0x08 ∷ 0x00 ∷ 0x08 ∷ 0x01 ∷ 0x03 ∷ 0xE9 ∷ 0xA4 ∷ [])
+    -- P5
     ∷ line (0xA5 ∷ 0xA5 ∷ 0x01 ∷ 0x00 ∷ 0x4B ∷ 0x85 ∷ []) (0xA5 ∷ 0xA5 ∷ 0x01 ∷ 0x04 ∷ 0x80 ∷ 0x02 ∷ 0x00 ∷ 0x03 ∷ 0xD4 ∷ 0xCE ∷ [])
-    ∷ record { chunks = p6 ∷ []; outs = done 8 1 pinged6 ∷ []; held = 0xA5 ∷ 0x01 ∷ 0x02 ∷ 0x02 ∷ 0x00 ∷ 0x4F ∷ 0x24 ∷ []; page = blank }
-    ∷ record { chunks = p6 ∷ [] ∷ []; outs = done 8 1 pinged6 ∷ ends 0 7 ∷ []; held = []; page = blank }
+    -- P6
+    ∷ record { chunks = p6 ∷ []; outs = done 8 1 pinged6 ∷ []; held = 0xA5 ∷ 0x01 ∷ 0x02 ∷ 0x02 ∷ 0x00 ∷ 0x4F ∷ 0x24 ∷ []; page = blankPage }
+    -- P6 and an empty feed
+    ∷ record { chunks = p6 ∷ [] ∷ []; outs = done 8 1 pinged6 ∷ ends 0 7 ∷ []; held = []; page = blankPage }
+    -- P7
     ∷ record {
       chunks = (0xA5 ∷ ping) ∷ (0x4F ∷ 0x25 ∷ []) ∷ [];
       outs = done 7 1 (0xA5 ∷ 0xA5 ∷ 0xA5 ∷ 0x04 ∷ 0x80 ∷ 0x02 ∷ 0x02 ∷ 0x01 ∷ 0x78 ∷ 0xA8 ∷ []) ∷ done 2 0 pinged ∷ [];
       held = [];
-      page = blank;
+      page = blankPage;
     }
+    -- P8
     ∷ record {
       chunks = (0xA5 ∷ 0xA5 ∷ 0x02 ∷ 0x03 ∷ 0x01 ∷ 0x01 ∷ 0x03 ∷ 0x54 ∷ 0x7F ∷ []) ∷ [];
       outs = saves 9 (answered 0x01 0x00 0xD3 0xD3) ∷ [];
       held = [];
       page = (0x01 ∷ 0x01 ∷ 0x04 ∷ 0x04 ∷ 0x00 ∷ 0x01 ∷ 0xC2 ∷ 0x00 ∷ []) ++ replicate 56 0xFF;
     }
+    -- P9
     ∷ line (0xA5 ∷ 0xA5 ∷ 0x02 ∷ 0x04 ∷ 0x08 ∷ 0x02 ∷ 0x01 ∷ 0x08 ∷ 0x63 ∷ 0xFB ∷ []) (answered 0x08 0x04 0xDE 0xE5)
+    -- P10
     ∷ line (0xA5 ∷ 0xA5 ∷ 0x03 ∷ 0x02 ∷ 0x02 ∷ 0x00 ∷ 0x51 ∷ 0x2D ∷ []) (0xA5 ∷ 0xA5 ∷ 0x03 ∷ 0x04 ∷ 0x80 ∷ 0x02 ∷ 0x02 ∷ 0x02 ∷ 0xD7 ∷ 0xDD ∷ [])
-    ∷ record { chunks = [] ∷ []; outs = ends 0 0 ∷ []; held = []; page = blank }
+    -- P11
+    ∷ record { chunks = [] ∷ []; outs = ends 0 0 ∷ []; held = []; page = blankPage }
+    -- P12
     ∷ record {
       chunks = saveOf 0x08 ∷ saveOf 0x07 ∷ saveOf 0x01 ∷ [];
       outs = saves 9 (answered 0x08 0x00 0xDA 0xE1) ∷ saves 9 (answered 0x07 0x00 0xD9 0xDF) ∷ saves 9 (answered 0x01 0x00 0xD3 0xD3) ∷ [];

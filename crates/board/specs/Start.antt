@@ -14,6 +14,7 @@ use Rattle.board.specs.Port.{freshPort}
 abbrev pub factorySettings : Settings
 factorySettings = record { baud = factoryValue Baud; accelerometer = factoryValue Accelerometer; gyroscope = factoryValue Gyroscope }
 
+-- Two fresh ports, and the working values.
 abbrev pub freshBoard : Settings → Board
 freshBoard w = record { first = freshPort; second = freshPort; settings = w }
 

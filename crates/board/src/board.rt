@@ -3,8 +3,11 @@ use crate::port::Port;
 use command::Settings;
 
 pub struct Board {
+    // port 0
     pub first: Port,
+    // port 1
     pub second: Port,
+    // the working values
     pub settings: Settings,
 }
 

@@ -63,7 +63,7 @@ fn excess(x: usize, y: usize) -> usize
     if x < y { 0 } else { x - y }
 }
 
-// Where reading goes on after a message, and the bytes skipped with it.
+// Where reading goes on after a message: behind a good one, one byte after the start of a damaged one.
 fn resume_at(k: usize, n: usize, good: bool) -> usize
     requires { ⌜ k + n < 18446744073709551616 ⌝ }
     requires { ⌜ 1 ≤ n ⌝ }
@@ -72,6 +72,7 @@ fn resume_at(k: usize, n: usize, good: bool) -> usize
     if good { k + n } else { k + 1 }
 }
 
+// The bytes skipped up to a message, and with a damaged one its first byte.
 fn skipped_with(k: usize, good: bool) -> usize
     requires { ⌜ k + 1 < 18446744073709551616 ⌝ }
     ensures { λ r. ⌜ r ≡ skippedBy k good ⌝ }
@@ -176,7 +177,7 @@ fn step(
     }
 }
 
-// A feed of a sound board's first port, in its place: nothing else of the board moves.
+// A feed of a sound board's first port, in its place: the second port is not touched.
 fn feed_first(mut board: Board, chunk: &[u8], room: &mut [u8], page: &mut [u8]) -> Fed
     requires { ⌜ board .first .held ≤ 260 ⌝ }
     ensures { λ r. ⌜ record { answer = r; room = now (room .exit); page = now (page .exit) } ≡ feedOn (stepOf (heldBytes (board .first)) (board .settings) (now (chunk .entry)) (now (room .entry)) (now (page .entry))) 0 board ⌝ }
@@ -197,7 +198,7 @@ fn feed_first(mut board: Board, chunk: &[u8], room: &mut [u8], page: &mut [u8]) 
     }
 }
 
-// A feed of its second port.
+// A feed of its second port: the first is not touched.
 fn feed_second(mut board: Board, chunk: &[u8], room: &mut [u8], page: &mut [u8]) -> Fed
     requires { ⌜ board .second .held ≤ 260 ⌝ }
     ensures { λ r. ⌜ record { answer = r; room = now (room .exit); page = now (page .exit) } ≡ feedOn (stepOf (heldBytes (board .second)) (board .settings) (now (chunk .entry)) (now (room .entry)) (now (page .entry))) 1 board ⌝ }

@@ -12,10 +12,11 @@ impl Port {
     // the most bytes that a port holds
     pub const ROOM: usize = 260;
     // the longest message
-    pub const LONGEST: usize = 261;
+    pub const LONGEST: usize = Self::ROOM + 1;
     // the longest reply, and the least room for it
     pub const REPLY: usize = 16;
 
+    // A fresh port holds nothing.
     pub fn new() -> Self
         ensures { λ r. ⌜ r ≡ freshPort ⌝ }
     {

@@ -50,7 +50,8 @@ abbrev pub valueRow : Setting → ℕ → List ℕ
 valueRow s x = codeOf s ∷ valueSize s ∷ valueBytes s x
 
 -- The effect of a function number on a setting, where x is the value sent. `loaded s` is the page's value of s, from the
--- factory page if it has no entry. (No command with a function below 1 or above 5 is accepted.)
+-- factory page if it has no entry. 1 sets the working value, 2 reads it, 3 saves it, 4 loads the page's value, 5 the factory
+-- value. (No command with a function below 1 or above 5 is accepted.)
 abbrev pub functionEffect : ℕ → (Setting → ℕ) → Settings → Setting → ℕ → Effect
 functionEffect zero loaded w s x = leaving w
 functionEffect (suc zero) loaded w s x = leaving (withWorking w s x)

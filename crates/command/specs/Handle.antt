@@ -18,7 +18,7 @@ use Rattle.command.specs.Answer.{Answering, answering}
 unfoldable pub settingsAllowed : Settings → Bool
 settingsAllowed w = allowed Baud (w .baud) && allowed Accelerometer (w .accelerometer) && allowed Gyroscope (w .gyroscope)
 
--- The longest reply is 16 bytes.
+-- The longest reply is 16 bytes. 18: a feed's room under 16 bytes.
 abbrev pub replyRoom : ℕ
 replyRoom = 16
 

@@ -1,4 +1,4 @@
-// The working settings of the board.
+// The working values of the board: document 01's settings.
 ghost use mathlib.Core.Path.{_≡_};
 ghost use Prim.Native.Nat.{_<_};
 ghost use lib.ListN.{getD};

@@ -18,7 +18,7 @@ use Rattle.stream.proofs.Events.{messages-append, skippedIn-append, messages-sk
 use Rattle.history.specs.Feeds.{Feed, Answer, Step, Run, run, refused, refuse, State, Turn, portOf, settled, accept}
 use Rattle.history.specs.Reckoning.{Outcome, Ledger, fresh, handleNext, usedUp, reckonFeed, reckonStep, reckoning}
 use Rattle.history.specs.Program.{Tests, heldStep, heldProgram}
-use Rattle.history.specs.Ports.{PortHistory, blank, historyAfter, historyOf, goodBytes, PortAccount}
+use Rattle.history.specs.Ports.{PortHistory, unfed, historyAfter, historyOf, goodBytes, PortAccount}
 use Rattle.history.specs.Theorems.{Handles, SameCut, history, held, PortAccounts, CutsHarmless}
 use Rattle.history.proofs.Driven.{Related, Agreed, port-related}
 use Rattle.history.proofs.Tracks.{Tracks, fresh-tracks, held-is, shortest-found, shortest-none, Reporting, reporting, starved-read}
@@ -29,7 +29,7 @@ goodIn-is [] = refl
 goodIn-is (skipped ∷ es) = goodIn-is es
 goodIn-is (reported m ∷ es) = omega (arith, goodIn-is es)
 
-module _ {front : List ℕ → Verdict} {longest : ℕ} (C : Cutting front longest) where
+module _ {front : List ℕ → Verdict} {mostHeld : ℕ} (C : Cutting front mostHeld) where
   -- What the answers say of a port is what the reckoning keeps of it.
   record Says (l : Ledger) (t : PortHistory) : Type 0 where
     bytes : l .bytes ≡ t .bytes
@@ -39,7 +39,7 @@ module _ {front : List ℕ → Verdict} {longest : ℕ} (C : Cutting front longe
     reports : messages (l .read) ≡ t .reports
     closed : t .last ≡ 1 → l .read ≡ events front (l .bytes)
 
-  fresh-says : Says fresh blank
+  fresh-says : Says fresh unfed
   fresh-says = record { bytes = refl; taken = refl; count = refl; skips = refl; reports = refl; closed = λ e. absurd (omega arith) }
 
   refused-says : (this : Bool) (n : ℕ) (l : Ledger) (t : PortHistory) (chunk : List ℕ) → Says l t
@@ -124,7 +124,7 @@ module _ {front : List ℕ → Verdict} {longest : ℕ} (C : Cutting front longe
 
   -- ---- How the history adds up.
 
-  account-of : (l : Ledger) (h : List ℕ) (t : PortHistory) → Tracks C l h → Says l t → PortAccount front longest t h
+  account-of : (l : Ledger) (h : List ℕ) (t : PortHistory) → Tracks C l h → Says l t → PortAccount front mostHeld t h
   account-of l h t r a =
       let whole : messages (events front (l .bytes)) ≡ messages (l .read) ++ messages (events front (h ++ [])) =
       cc (r .scanned [], append-nil (l .bytes), messages-append (l .read) (events front (h ++ []))) in
@@ -153,45 +153,45 @@ module _ {front : List ℕ → Verdict} {longest : ℕ} (C : Cutting front longe
     unfolding run historyOf
     run-says p s b [] t hp r a = a
     run-says p s b (f ∷ fs) t hp r a =
-        run-says p (reckonStep front reckoned room s f .state) (heldStep front handle longest room tests b f .state) fs
+        run-says p (reckonStep front reckoned room s f .state) (heldStep front handle mostHeld room tests b f .state) fs
         (historyAfter (eqb (f .port) p) t (f .chunk) (reckonStep front reckoned room s f .answer)) hp
         (step-related C H room s b f r .state)
         (step-says reckoned room p s f (portOf (f .port) b) t hp (port-related (Tracks C) L (f .port) s b r) a)
 
-    fresh-port : (p : ℕ) (v : X) → Says (portOf p (record { port0 = fresh; port1 = fresh; values = v })) blank
+    fresh-port : (p : ℕ) (v : X) → Says (portOf p (record { port0 = fresh; port1 = fresh; values = v })) unfed
     fresh-port zero v = fresh-says
     fresh-port (suc p) v = fresh-says
 
     account : (p : ℕ) (v : X) (w : W) (fs : List Feed) → p ≤ 1 → L v w
-        → PortAccount front longest (historyOf p blank fs (heldProgram front handle longest room tests w fs .answers))
-        (portOf p (heldProgram front handle longest room tests w fs .final))
+        → PortAccount front mostHeld (historyOf p unfed fs (heldProgram front handle mostHeld room tests w fs .answers))
+        (portOf p (heldProgram front handle mostHeld room tests w fs .final))
     unfolding reckoning heldProgram
     account p v w fs hp lw =
         let q : Run (State Ledger X) = reckoning front reckoned room v fs in
-        let b : Run (State (List ℕ) W) = heldProgram front handle longest room tests w fs in
+        let b : Run (State (List ℕ) W) = heldProgram front handle mostHeld room tests w fs in
         let same : Agreed (Related (Tracks C) L) q b = runs-agree C H room v w fs lw in
-        let a : Says (portOf p (q .final)) (historyOf p blank fs (q .answers)) =
-        run-says p (record { port0 = fresh; port1 = fresh; values = v }) (record { port0 = []; port1 = []; values = w }) fs blank hp
+        let a : Says (portOf p (q .final)) (historyOf p unfed fs (q .answers)) =
+        run-says p (record { port0 = fresh; port1 = fresh; values = v }) (record { port0 = []; port1 = []; values = w }) fs unfed hp
         (record { port0 = fresh-tracks C; port1 = fresh-tracks C; values = lw }) (fresh-port p v) in
-        subst (λ (answers : List Answer). PortAccount front longest (historyOf p blank fs answers) (portOf p (b .final))) (same .answers)
-        (account-of (portOf p (q .final)) (portOf p (b .final)) (historyOf p blank fs (q .answers))
+        subst (λ (answers : List Answer). PortAccount front mostHeld (historyOf p unfed fs answers) (portOf p (b .final))) (same .answers)
+        (account-of (portOf p (q .final)) (portOf p (b .final)) (historyOf p unfed fs (q .answers))
         (port-related (Tracks C) L p (q .final) (b .final) (same .final)) a)
 
 -- Two histories with the same bytes, each fed on to answer 1.
-same-cut : {front : List ℕ → Verdict} {longest : ℕ} (t t′ : PortHistory) (h h′ : List ℕ) → PortAccount front longest t h
-    → PortAccount front longest t′ h′ → t .bytes ≡ t′ .bytes → t .last ≡ 1 → t′ .last ≡ 1 → SameCut t t′ h h′
+same-cut : {front : List ℕ → Verdict} {mostHeld : ℕ} (t t′ : PortHistory) (h h′ : List ℕ) → PortAccount front mostHeld t h
+    → PortAccount front mostHeld t′ h′ → t .bytes ≡ t′ .bytes → t .last ≡ 1 → t′ .last ≡ 1 → SameCut t t′ h h′
 same-cut t t′ h h′ a a′ same one one′ =
     let reports : t .reports ≡ t′ .reports = cc (a .all one, a′ .all one′) in
     let skips : t .skips ≡ t′ .skips = cc (a .all-skips one, a′ .all-skips one′) in
     record { reports = reports; skips = skips; held = cc (a .rest, a′ .rest) }
 
-module _ (front : List ℕ → Verdict) (longest room : ℕ) {X W : Type 0} (L : X → W → Type 0)
+module _ (front : List ℕ → Verdict) (mostHeld room : ℕ) {X W : Type 0} (L : X → W → Type 0)
     (reckoned : ℕ → X → Message → Outcome X) (tests : W → Tests) (handle : ℕ → W → Message → Outcome W) where
-  pub portAccounts : PortAccounts front longest room L reckoned tests handle
+  pub portAccounts : PortAccounts front mostHeld room L reckoned tests handle
   portAccounts C H p v w fs hp lw = account C H room p v w fs hp lw
 
-  pub cutsHarmless : CutsHarmless front longest room L reckoned tests handle
+  pub cutsHarmless : CutsHarmless front mostHeld room L reckoned tests handle
   cutsHarmless C H p p′ v v′ w w′ fs fs′ hp hp′ lw lw′ same one one′ =
-      same-cut (history front longest room L reckoned tests handle p w fs) (history front longest room L reckoned tests handle p′ w′ fs′)
-      (held front longest room L reckoned tests handle p w fs) (held front longest room L reckoned tests handle p′ w′ fs′)
+      same-cut (history front mostHeld room L reckoned tests handle p w fs) (history front mostHeld room L reckoned tests handle p′ w′ fs′)
+      (held front mostHeld room L reckoned tests handle p w fs) (held front mostHeld room L reckoned tests handle p′ w′ fs′)
       (account C H room p v w fs hp lw) (account C H room p′ v′ w′ fs′ hp′ lw′) same one one′

@@ -24,7 +24,7 @@ use Rattle.history.specs.Theorems.{Handled, Handles, Demand3, HeldFew}
 use Rattle.history.proofs.Driven.{Alike, Related, Stepped, Agreed, run-related, port-related, settled-related}
 use Rattle.history.proofs.Tracks.{Tracks, fresh-tracks, held-is, grow, shortest-found, shortest-none, fits-after, Reporting, reporting, starved-read}
 
-module _ {front : List ℕ → Verdict} {longest : ℕ} (C : Cutting front longest) {X W : Type 0} {L : X → W → Type 0}
+module _ {front : List ℕ → Verdict} {mostHeld : ℕ} (C : Cutting front mostHeld) {X W : Type 0} {L : X → W → Type 0}
     {reckoned : ℕ → X → Message → Outcome X} {tests : W → Tests} {handle : ℕ → W → Message → Outcome W}
     (H : Handles L reckoned tests handle) where
   -- ---- One accepted feed.
@@ -40,7 +40,7 @@ module _ {front : List ℕ → Verdict} {longest : ℕ} (C : Cutting front longe
       let m : Message = messageAt n good (drop k u) in
       let i : Reporting C l h t j k n good = reporting C l h chunk k n good r e in
       let o : Handled L (reckoned p v m) (handle p w m) = H .handled p v w m lw in
-      let s : Sized front longest u k n = i .size in
+      let s : Sized front mostHeld u k n = i .size in
       let skip : skippedIn (through (suc (l .count)) (events front (l .bytes ++ t))) - skippedIn (l .read) ≡ skippedBy k good =
       rw (i .read) (omega (arith, skippedIn-append (l .read) (skipsThen k m), skippedIn-skipsThen k m)) in
       let size : length (take n (drop k u)) ≡ n = length-take-le n (drop k u) (omega (arith, length-drop k u)) in
@@ -67,7 +67,7 @@ module _ {front : List ℕ → Verdict} {longest : ℕ} (C : Cutting front longe
       → Alike (Tracks C) L (usedUp front reckoned l v chunk) (heldOn front handle (Starved k) p h w chunk)
   unfolding usedUp heldOn
   starved-alike p l h chunk v w k r lw e =
-      let s : StarvedAt front longest (h ++ chunk) k = starved-is C (h ++ chunk) k e in
+      let s : StarvedAt front mostHeld (h ++ chunk) k = starved-is C (h ++ chunk) k e in
       let read : events front (l .bytes ++ chunk) ≡ l .read ++ skips k = starved-read C l h chunk k r e in
       let skip : skippedIn (events front (l .bytes ++ chunk)) - skippedIn (l .read) ≡ k =
       rw read (omega (arith, skippedIn-append (l .read) (skips k), skippedIn-skips k)) in
@@ -101,16 +101,16 @@ module _ {front : List ℕ → Verdict} {longest : ℕ} (C : Cutting front longe
 
   -- A state that is related to the reckoning's passes the program's test 17.
   fit : (s : State Ledger X) (t : State (List ℕ) W) → Related (Tracks C) L s t
-      → ltb longest (length (t .port0)) || ltb longest (length (t .port1)) || tests (t .values) .disallowed ≡ false
+      → ltb mostHeld (length (t .port0)) || ltb mostHeld (length (t .port1)) || tests (t .values) .disallowed ≡ false
   fit s t r =
       cc (
-        le-ltb longest (length (t .port0)) (r .port0 .few),
-        le-ltb longest (length (t .port1)) (r .port1 .few),
+        le-ltb mostHeld (length (t .port0)) (r .port0 .few),
+        le-ltb mostHeld (length (t .port1)) (r .port1 .few),
         H .passes (s .values) (t .values) (r .values),
       )
 
   pub step-related : (room : ℕ) (s : State Ledger X) (t : State (List ℕ) W) (d : Feed) → Related (Tracks C) L s t
-      → Stepped (Related (Tracks C) L) (reckonStep front reckoned room s d) (heldStep front handle longest room tests t d)
+      → Stepped (Related (Tracks C) L) (reckonStep front reckoned room s d) (heldStep front handle mostHeld room tests t d)
   unfolding reckonStep heldStep
   step-related room s t d r = rw (fit s t r, H .passes (s .values) (t .values) (r .values)) (go (ltb 1 (d .port)) (ltb (d .room) room))
     where
@@ -135,19 +135,19 @@ module _ {front : List ℕ → Verdict} {longest : ℕ} (C : Cutting front longe
   -- ---- A list of feeds.
 
   pub runs-agree : (room : ℕ) (v : X) (w : W) (fs : List Feed) → L v w
-      → Agreed (Related (Tracks C) L) (reckoning front reckoned room v fs) (heldProgram front handle longest room tests w fs)
+      → Agreed (Related (Tracks C) L) (reckoning front reckoned room v fs) (heldProgram front handle mostHeld room tests w fs)
   unfolding reckoning heldProgram
   runs-agree room v w fs lw =
-      run-related (Related (Tracks C) L) (reckonStep front reckoned room) (heldStep front handle longest room tests) (step-related room)
+      run-related (Related (Tracks C) L) (reckonStep front reckoned room) (heldStep front handle mostHeld room tests) (step-related room)
       (record { port0 = fresh; port1 = fresh; values = v }) (record { port0 = []; port1 = []; values = w }) fs
       (record { port0 = fresh-tracks C; port1 = fresh-tracks C; values = lw })
 
-module _ (front : List ℕ → Verdict) (longest room : ℕ) {X W : Type 0} (L : X → W → Type 0)
+module _ (front : List ℕ → Verdict) (mostHeld room : ℕ) {X W : Type 0} (L : X → W → Type 0)
     (reckoned : ℕ → X → Message → Outcome X) (tests : W → Tests) (handle : ℕ → W → Message → Outcome W) where
-  pub demand3 : Demand3 front longest room L reckoned tests handle
+  pub demand3 : Demand3 front mostHeld room L reckoned tests handle
   demand3 C H v w fs lw =
       let q : Run (State Ledger X) = reckoning front reckoned room v fs in
-      let b : Run (State (List ℕ) W) = heldProgram front handle longest room tests w fs in
+      let b : Run (State (List ℕ) W) = heldProgram front handle mostHeld room tests w fs in
       let same : Agreed (Related (Tracks C) L) q b = runs-agree C H room v w fs lw in
       record {
         answers = sym (same .answers);
@@ -156,10 +156,10 @@ module _ (front : List ℕ → Verdict) (longest room : ℕ) {X W : Type 0} (L :
         held1 = sym (held-is C (q .final .port1) (b .final .port1) (same .final .port1));
       }
 
-  pub heldFew : HeldFew front longest room L reckoned tests handle
+  pub heldFew : HeldFew front mostHeld room L reckoned tests handle
   heldFew C H p v w fs lw =
       let q : Run (State Ledger X) = reckoning front reckoned room v fs in
-      let b : Run (State (List ℕ) W) = heldProgram front handle longest room tests w fs in
+      let b : Run (State (List ℕ) W) = heldProgram front handle mostHeld room tests w fs in
       let same : Agreed (Related (Tracks C) L) q b = runs-agree C H room v w fs lw in
       port-related (Tracks C) L p (q .final) (b .final) (same .final) .few
 

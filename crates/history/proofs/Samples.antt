@@ -13,7 +13,7 @@ use Rattle.stream.specs.Seek.{seek}
 use Rattle.history.specs.Feeds.{Feed, Answer, run}
 use Rattle.history.specs.Reckoning.{Outcome, shortest, handleNext, usedUp, reckonFeed, reckonStep, reckoning}
 use Rattle.history.specs.Program.{passing, heldOn, heldFeed, heldStep, heldProgram}
-use Rattle.history.specs.Ports.{blank, historyOf}
+use Rattle.history.specs.Ports.{unfed, historyOf}
 
 front : List ℕ → Verdict
 front = frontBy (λ u. eqb (getD u 0 0) 5) (λ u. getD u 1 0 + 3) (λ m. eqb (getD m (length m - 1) 0) 1)
@@ -61,7 +61,7 @@ unfolding front count feeds seek run heldOn heldFeed heldStep heldProgram
 held = refl
 
 -- 9 bytes taken are 3 of a good message, 5 skipped and 1 held.
-told : historyOf 0 blank feeds answers
+told : historyOf 0 unfed feeds answers
     ≡ record { bytes = 9 ∷ 5 ∷ 3 ∷ 5 ∷ 0 ∷ 1 ∷ 0 ∷ 8 ∷ 5 ∷ []; taken = 9; count = 2; skips = 5; reports = damaged ∷ good ∷ []; last = 1 }
 unfolding feeds damaged good answers historyOf
 told = refl

@@ -26,7 +26,7 @@ standing-append r es = omega (arith, skippedIn-append r es, goodIn-append r es)
 rejoin : (h chunk : List ℕ) (i : ℕ) → h ++ take i chunk ++ drop i chunk ≡ h ++ chunk
 rejoin h chunk i = simp (append-assoc, take-append-drop)
 
-module _ {front : List ℕ → Verdict} {longest : ℕ} (C : Cutting front longest) where
+module _ {front : List ℕ → Verdict} {mostHeld : ℕ} (C : Cutting front mostHeld) where
   -- The held bytes h are the end of all bytes, from where the scan stands; and for every continuation, the scan of all bytes is
   -- what was read, then the scan of the held bytes.
   pub record Tracks (l : Ledger) (h : List ℕ) : Type 0 where
@@ -35,7 +35,7 @@ module _ {front : List ℕ → Verdict} {longest : ℕ} (C : Cutting front longe
     pub place : length before ≡ standing (l .read)
     pub scanned : (v : List ℕ) → events front (l .bytes ++ v) ≡ l .read ++ events front (h ++ v)
     pub counted : length (messages (l .read)) ≡ l .count
-    pub few : length h ≤ longest
+    pub few : length h ≤ mostHeld
 
   pub fresh-tracks : Tracks fresh []
   fresh-tracks = record { before = []; split = refl; place = refl; scanned = λ v. refl; counted = refl; few = omega arith }
@@ -46,7 +46,7 @@ module _ {front : List ℕ → Verdict} {longest : ℕ} (C : Cutting front longe
   -- A feed takes t, and the scan goes on by the events `new`, over a bytes.
   pub grow : (l : Ledger) (h t : List ℕ) (new : List Event) (a c : ℕ) → Tracks l h → standing new ≡ a → a ≤ length (h ++ t)
       → ((v : List ℕ) → events front (h ++ t ++ v) ≡ new ++ events front (drop a (h ++ t) ++ v))
-      → length (drop a (h ++ t)) ≤ longest
+      → length (drop a (h ++ t)) ≤ mostHeld
       → length (messages (l .read ++ new)) ≡ c
       → Tracks (record { bytes = l .bytes ++ t; count = c; read = l .read ++ new }) (drop a (h ++ t))
   grow l h t new a c r s inside goes few counted =
@@ -117,7 +117,7 @@ module _ {front : List ℕ → Verdict} {longest : ℕ} (C : Cutting front longe
           C .found-stays (h ++ take i chunk) (drop i chunk) k′ n′ good′ e′ in
           let p : k ≡ k′ = cc (rejoin h chunk i) in
           let q : n ≡ n′ = cc (rejoin h chunk i) in
-          let s : Sized front longest (h ++ take i chunk) k′ n′ = C .found-sized (h ++ take i chunk) k′ n′ good′ e′ in
+          let s : Sized front mostHeld (h ++ take i chunk) k′ n′ = C .found-sized (h ++ take i chunk) k′ n′ good′ e′ in
           absurd (omega (arith, length-append h (take i chunk), length-take i chunk))
       go (Starved k′) e′ = starved-finds-none l h (take i chunk) k′ r e′
 
@@ -140,7 +140,7 @@ module _ {front : List ℕ → Verdict} {longest : ℕ} (C : Cutting front longe
       → seek front (h ++ take (k + n - length h) chunk) ≡ Found k n good
   found-taken h chunk k n good e =
       let j : ℕ = k + n - length h in
-      let s : Sized front longest (h ++ chunk) k n = C .found-sized (h ++ chunk) k n good e in
+      let s : Sized front mostHeld (h ++ chunk) k n = C .found-sized (h ++ chunk) k n good e in
       let whole : seek front (h ++ take j chunk ++ drop j chunk) ≡ Found k n good = cc (rejoin h chunk j) in
       C .found-alone (h ++ take j chunk) (drop j chunk) k n good whole
       (omega (arith, length-append h (take j chunk), length-take j chunk, length-append h chunk))
@@ -150,7 +150,7 @@ module _ {front : List ℕ → Verdict} {longest : ℕ} (C : Cutting front longe
   unfolding shortest
   shortest-found l h chunk k n good r e =
       let j : ℕ = k + n - length h in
-      let s : Sized front longest (h ++ chunk) k n = C .found-sized (h ++ chunk) k n good e in
+      let s : Sized front mostHeld (h ++ chunk) k n = C .found-sized (h ++ chunk) k n good e in
       least-at (λ i. finds front (l .count) (l .bytes ++ take i chunk)) (length chunk) 0 j
       (λ i _ lt. before-finds-none l h chunk k n good i r e lt)
       (found-finds l h (take j chunk) k n good r (found-taken h chunk k n good e))
@@ -165,15 +165,15 @@ module _ {front : List ℕ → Verdict} {longest : ℕ} (C : Cutting front longe
   -- ---- What the reckoning reads.
 
   -- What is held after a message fits.
-  pub fits-after : (h t : List ℕ) (k n : ℕ) (good : Bool) → Sized front longest (h ++ t) k n → length t ≡ k + n - length h → length h ≤ longest
-      → (resume k n good ≤ length (h ++ t)) × (length (drop (resume k n good) (h ++ t)) ≤ longest)
+  pub fits-after : (h t : List ℕ) (k n : ℕ) (good : Bool) → Sized front mostHeld (h ++ t) k n → length t ≡ k + n - length h → length h ≤ mostHeld
+      → (resume k n good ≤ length (h ++ t)) × (length (drop (resume k n good) (h ++ t)) ≤ mostHeld)
   fits-after h t k n true s e few = (omega arith, omega (arith, length-drop (k + n) (h ++ t), length-append h t))
   fits-after h t k n false s e few = (omega arith, omega (arith, length-drop (suc k) (h ++ t), length-append h t))
 
   -- Where the program reports a message after taking t, j bytes.
   pub record Reporting (l : Ledger) (h t : List ℕ) (j k n : ℕ) (good : Bool) : Type 0 where
     pub here : seek front (h ++ t) ≡ Found k n good
-    pub size : Sized front longest (h ++ t) k n
+    pub size : Sized front mostHeld (h ++ t) k n
     pub len : length t ≡ j
     pub read : through (suc (l .count)) (events front (l .bytes ++ t)) ≡ l .read ++ skipsThen k (messageAt n good (drop k (h ++ t)))
     pub this : getD (messages (events front (l .bytes ++ t))) (l .count) noMessage ≡ messageAt n good (drop k (h ++ t))
@@ -186,7 +186,7 @@ module _ {front : List ℕ → Verdict} {longest : ℕ} (C : Cutting front longe
       let u : List ℕ = h ++ t in
       let m : Message = messageAt n good (drop k u) in
       let rest : List Event = events front (drop (resume k n good) u) in
-      let size : Sized front longest (h ++ chunk) k n = C .found-sized (h ++ chunk) k n good e in
+      let size : Sized front mostHeld (h ++ chunk) k n = C .found-sized (h ++ chunk) k n good e in
       let here : seek front u ≡ Found k n good = found-taken h chunk k n good e in
       let scan : events front (l .bytes ++ t) ≡ l .read ++ (skipsThen k m ++ rest) = cc (r .scanned t, found-events C u k n good here) in
       record {

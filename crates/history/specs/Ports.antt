@@ -20,8 +20,8 @@ pub record PortHistory : Type 0 where
   pub last : ℕ
 
 -- Of a port that is not fed yet; an accepted feed answers 0 or 1, so 2 says that there was none.
-abbrev pub blank : PortHistory
-blank = record { bytes = []; taken = 0; count = 0; skips = 0; reports = []; last = 2 }
+abbrev pub unfed : PortHistory
+unfed = record { bytes = []; taken = 0; count = 0; skips = 0; reports = []; last = 2 }
 
 -- Number 0: "a message was reported".
 abbrev pub counted : ℕ → ℕ → ℕ
@@ -59,9 +59,9 @@ goodBytes [] = 0
 goodBytes (m ∷ ms) = goodAt (m .good) (length (m .bytes)) + goodBytes ms
 
 -- How the history of a port adds up, with the bytes that it holds at the end.
-pub record PortAccount (front : List ℕ → Verdict) (longest : ℕ) (t : PortHistory) (held : List ℕ) : Type 0 where
+pub record PortAccount (front : List ℕ → Verdict) (mostHeld : ℕ) (t : PortHistory) (held : List ℕ) : Type 0 where
   -- "A port holds at most 260 bytes of an undecided message or of bytes not yet looked at."
-  pub few : length held ≤ longest
+  pub few : length held ≤ mostHeld
   -- The bytes answered as taken are as many as were taken.
   pub taken : length (t .bytes) ≡ t .taken
   -- "Over any run from a fresh port, bytes taken on it = lengths of its good messages + bytes the scan skipped + bytes held."

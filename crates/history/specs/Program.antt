@@ -57,12 +57,12 @@ module _ (front : List ℕ → Verdict) {Stored : Type 0} (handle : ℕ → Stor
   unfoldable pub heldFeed : ℕ → List ℕ → Stored → List ℕ → Turn (List ℕ) Stored
   heldFeed p held w chunk = heldOn (seek front (held ++ chunk)) p held w chunk
 
-  -- "A feed 16 to 20 .. Order as listed": port not 0 or 1; a port holds over `longest`, or a working value is not allowed;
+  -- "A feed 16 to 20 .. Order as listed": port not 0 or 1; a port holds over `mostHeld`, or a working value is not allowed;
   -- room too small; page of a wrong length; page neither blank nor sound. `room` is the least length of a room.
   unfoldable pub heldStep : ℕ → ℕ → (Stored → Tests) → State (List ℕ) Stored → Feed → Step (State (List ℕ) Stored)
-  heldStep longest room tests s f =
+  heldStep mostHeld room tests s f =
       refuse (ltb 1 (f .port)) 16 s
-      (refuse (ltb longest (length (s .port0)) || ltb longest (length (s .port1)) || tests (s .values) .disallowed) 17 s
+      (refuse (ltb mostHeld (length (s .port0)) || ltb mostHeld (length (s .port1)) || tests (s .values) .disallowed) 17 s
       (refuse (ltb (f .room) room) 18 s
       (refuse (tests (s .values) .wrongLength) 19 s
       (refuse (tests (s .values) .unsound) 20 s
@@ -70,4 +70,4 @@ module _ (front : List ℕ → Verdict) {Stored : Type 0} (handle : ℕ → Stor
 
   -- The program over a list of feeds. "A fresh port holds nothing."
   unfoldable pub heldProgram : ℕ → ℕ → (Stored → Tests) → Stored → List Feed → Run (State (List ℕ) Stored)
-  heldProgram longest room tests w = run (heldStep longest room tests) (record { port0 = []; port1 = []; values = w })
+  heldProgram mostHeld room tests w = run (heldStep mostHeld room tests) (record { port0 = []; port1 = []; values = w })

@@ -11,7 +11,7 @@ use Rattle.stream.specs.Cutting.{Cutting}
 use Rattle.history.specs.Feeds.{Feed, Run, State, portOf}
 use Rattle.history.specs.Reckoning.{Outcome, Ledger, heldOf, finds, shortest, reckoning}
 use Rattle.history.specs.Program.{Tests, passing, heldProgram}
-use Rattle.history.specs.Ports.{PortHistory, blank, historyOf, PortAccount}
+use Rattle.history.specs.Ports.{PortHistory, unfed, historyOf, PortAccount}
 
 -- ---- The reckoning's search.
 
@@ -64,39 +64,39 @@ pub record SameCut (t t′ : PortHistory) (h h′ : List ℕ) : Type 0 where
 
 -- ---- The theorems, over any framing whose cutting is harmless and any handling. `room` is the least length of a room.
 
-module _ (front : List ℕ → Verdict) (longest room : ℕ) {Values Stored : Type 0} (StoredAs : Values → Stored → Type 0)
+module _ (front : List ℕ → Verdict) (mostHeld room : ℕ) {Values Stored : Type 0} (StoredAs : Values → Stored → Type 0)
     (reckoned : ℕ → Values → Message → Outcome Values) (tests : Stored → Tests) (handle : ℕ → Stored → Message → Outcome Stored) where
   -- Demand 3, "one claim about the whole list": to every list of feeds the program gives the reckoning's answers, and it is
   -- left with the reckoning's values and held bytes.
   abbrev pub Demand3 : Type 0
-  Demand3 = Cutting front longest → Handles StoredAs reckoned tests handle
+  Demand3 = Cutting front mostHeld → Handles StoredAs reckoned tests handle
       → (v : Values) (w : Stored) (fs : List Feed) → StoredAs v w
-      → Matches StoredAs (reckoning front reckoned room v fs) (heldProgram front handle longest room tests w fs)
+      → Matches StoredAs (reckoning front reckoned room v fs) (heldProgram front handle mostHeld room tests w fs)
 
-  -- No port ever holds more than `longest` bytes.
+  -- No port ever holds more than `mostHeld` bytes.
   abbrev pub HeldFew : Type 0
-  HeldFew = Cutting front longest → Handles StoredAs reckoned tests handle
+  HeldFew = Cutting front mostHeld → Handles StoredAs reckoned tests handle
       → (p : ℕ) (v : Values) (w : Stored) (fs : List Feed) → StoredAs v w
-      → length (portOf p (heldProgram front handle longest room tests w fs .final)) ≤ longest
+      → length (portOf p (heldProgram front handle mostHeld room tests w fs .final)) ≤ mostHeld
 
   -- The history of port p, by the program's answers.
   abbrev pub history : ℕ → Stored → List Feed → PortHistory
-  history p w fs = historyOf p blank fs (heldProgram front handle longest room tests w fs .answers)
+  history p w fs = historyOf p unfed fs (heldProgram front handle mostHeld room tests w fs .answers)
 
   -- What port p holds at the end.
   abbrev pub held : ℕ → Stored → List Feed → List ℕ
-  held p w fs = portOf p (heldProgram front handle longest room tests w fs .final)
+  held p w fs = portOf p (heldProgram front handle mostHeld room tests w fs .final)
 
   -- The program's answers about a port add up: the sum law, and the messages reported are those of the scan.
   abbrev pub PortAccounts : Type 0
-  PortAccounts = Cutting front longest → Handles StoredAs reckoned tests handle
+  PortAccounts = Cutting front mostHeld → Handles StoredAs reckoned tests handle
       → (p : ℕ) (v : Values) (w : Stored) (fs : List Feed) → p ≤ 1 → StoredAs v w
-      → PortAccount front longest (history p w fs) (held p w fs)
+      → PortAccount front mostHeld (history p w fs) (held p w fs)
 
   -- However a stream is cut: two ports that took the same bytes, each fed on to answer 1, reported the same messages, skipped
   -- as many bytes and hold the same, whatever else the two lists of feeds have.
   abbrev pub CutsHarmless : Type 0
-  CutsHarmless = Cutting front longest → Handles StoredAs reckoned tests handle
+  CutsHarmless = Cutting front mostHeld → Handles StoredAs reckoned tests handle
       → (p p′ : ℕ) (v v′ : Values) (w w′ : Stored) (fs fs′ : List Feed) → p ≤ 1 → p′ ≤ 1 → StoredAs v w → StoredAs v′ w′
       → history p w fs .bytes ≡ history p′ w′ fs′ .bytes → history p w fs .last ≡ 1 → history p′ w′ fs′ .last ≡ 1
       → SameCut (history p w fs) (history p′ w′ fs′) (held p w fs) (held p′ w′ fs′)

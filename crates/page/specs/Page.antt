@@ -76,6 +76,7 @@ pageOf (e ∷ es) = filled (length (e ∷ es) ∷ contentsFrom (1 + 3 * length (
 unfoldable pub writing : Values → List ℕ
 writing v = pageOf (itemsOf v)
 
+-- Blank: 64 bytes FF.
 abbrev pub blankPage : List ℕ
 blankPage = filled []
 

@@ -22,7 +22,7 @@ resume-suc : (k n : ℕ) (good : Bool) → resume (suc k) n good ≡ suc (resume
 resume-suc k n true = suc-add k n
 resume-suc k n false = refl
 
-module _ {front : List ℕ → Verdict} {longest peek : ℕ} (F : Framing front longest peek) where
+module _ {front : List ℕ → Verdict} {mostHeld peek : ℕ} (F : Framing front mostHeld peek) where
   events-drop : (p : ℕ) (u : List ℕ) → eventsPast front p u ≡ events front (drop p u)
   unfolding eventsPast
   events-drop zero [] = refl
@@ -45,12 +45,12 @@ module _ {front : List ℕ → Verdict} {longest peek : ℕ} (F : Framing front 
       let l : n ≤ length xs = omega arith in
       rw (F .whole-stays (x ∷ xs) v (suc n) false e, take-append-le n xs v l)
 
-  pub agrees : (u : List ℕ) → Agrees front longest u (seek front u)
+  pub agrees : (u : List ℕ) → Agrees front mostHeld u (seek front u)
   unfolding seek eventsPast
   agrees [] = record { goes = λ v. refl; ends = refl; inside = omega arith; few = omega arith }
   agrees (x ∷ xs) = go (front (x ∷ xs)) refl (seek front xs) (agrees xs)
     where
-      go : (d : Verdict) → front (x ∷ xs) ≡ d → (r : Sought) → Agrees front longest xs r → Agrees front longest (x ∷ xs) (seekOn d r)
+      go : (d : Verdict) → front (x ∷ xs) ≡ d → (r : Sought) → Agrees front mostHeld xs r → Agrees front mostHeld (x ∷ xs) (seekOn d r)
       go Skip e (Starved k) ih =
           record {
             goes = λ v. rw (F .skip-stays (x ∷ xs) v e, ih .goes v);
@@ -82,7 +82,7 @@ module _ {front : List ℕ → Verdict} {longest peek : ℕ} (F : Framing front 
   scan-damaged [] n e = let s = F .size [] n false e in absurd (omega arith)
   scan-damaged (x ∷ xs) n e = rw (append-nil xs) at (here x xs [] n false e)
 
-  all : Cutting front longest
+  all : Cutting front mostHeld
   all =
       record {
         scan-skip = scan-skip;
@@ -99,24 +99,24 @@ module _ {front : List ℕ → Verdict} {longest peek : ℕ} (F : Framing front 
       }
 
 pub cutting : FramingCuts
-cutting front longest peek F = all F
+cutting front mostHeld peek F = all F
 
 -- ---- What follows from seek and scan agreeing, by the seek's answer.
-module _ {front : List ℕ → Verdict} {longest : ℕ} (C : Cutting front longest) where
-  pub found-is : (u : List ℕ) (k n : ℕ) (good : Bool) → seek front u ≡ Found k n good → Agrees front longest u (Found k n good)
-  found-is u k n good e = subst (λ (r : Sought). Agrees front longest u r) e (C .agrees u)
+module _ {front : List ℕ → Verdict} {mostHeld : ℕ} (C : Cutting front mostHeld) where
+  pub found-is : (u : List ℕ) (k n : ℕ) (good : Bool) → seek front u ≡ Found k n good → Agrees front mostHeld u (Found k n good)
+  found-is u k n good e = subst (λ (r : Sought). Agrees front mostHeld u r) e (C .agrees u)
 
-  pub starved-is : (u : List ℕ) (k : ℕ) → seek front u ≡ Starved k → StarvedAt front longest u k
-  starved-is u k e = subst (λ (r : Sought). Agrees front longest u r) e (C .agrees u)
+  pub starved-is : (u : List ℕ) (k : ℕ) → seek front u ≡ Starved k → StarvedAt front mostHeld u k
+  starved-is u k e = subst (λ (r : Sought). Agrees front mostHeld u r) e (C .agrees u)
 
   -- The whole scan where no message is found, and where one is.
   pub starved-events : (u : List ℕ) (k : ℕ) → seek front u ≡ Starved k → events front u ≡ skips k
   starved-events u k e =
-      let s : StarvedAt front longest u k = starved-is u k e in
+      let s : StarvedAt front mostHeld u k = starved-is u k e in
       cc (append-nil u, s .goes [], append-nil (drop k u), s .ends, append-nil (skips k))
 
   pub found-events : (u : List ℕ) (k n : ℕ) (good : Bool) → seek front u ≡ Found k n good
       → events front u ≡ skipsThen k (messageAt n good (drop k u)) ++ events front (drop (resume k n good) u)
   found-events u k n good e =
-      let s : Agrees front longest u (Found k n good) = found-is u k n good e in
+      let s : Agrees front mostHeld u (Found k n good) = found-is u k n good e in
       cc (append-nil u, s [], append-nil (drop (resume k n good) u))

@@ -13,13 +13,13 @@ use Rattle.stream.specs.declared.Verdict.the-variants.{Skip, Undecided, 
 use Rattle.stream.specs.Framing.{verdictOn, frontOn, frontBy, Framing}
 
 -- `peek` bytes decide the opening, and `head` bytes the size.
-pub record Header (opens : List ℕ → Bool) (size : List ℕ → ℕ) (longest peek head : ℕ) : Type 0 where
+pub record Header (opens : List ℕ → Bool) (size : List ℕ → ℕ) (mostHeld peek head : ℕ) : Type 0 where
   pub opens-append : (u v : List ℕ) → peek ≤ length u → opens (u ++ v) ≡ opens u
   pub opens-false : (u v : List ℕ) → opens u ≡ false → opens (u ++ v) ≡ false
   pub size-append : (u v : List ℕ) → head ≤ length u → size (u ++ v) ≡ size u
-  pub bounds : (u : List ℕ) → (1 ≤ size u) × (peek ≤ size u) × (head ≤ size u) × (size u ≤ suc longest)
+  pub bounds : (u : List ℕ) → (1 ≤ size u) × (peek ≤ size u) × (head ≤ size u) × (size u ≤ suc mostHeld)
 
-module _ {opens : List ℕ → Bool} {size : List ℕ → ℕ} {longest peek head : ℕ} (H : Header opens size longest peek head) (valid : List ℕ → Bool) where
+module _ {opens : List ℕ → Bool} {size : List ℕ → ℕ} {mostHeld peek head : ℕ} (H : Header opens size mostHeld peek head) (valid : List ℕ → Bool) where
   abbrev front : List ℕ → Verdict
   front = frontBy opens size valid
 
@@ -64,15 +64,15 @@ module _ {opens : List ℕ → Bool} {size : List ℕ → ℕ} {longest peek hea
         le-leb (size u) (length u) h,
       )
 
-  short : (u : List ℕ) → front u ≡ Undecided → length u ≤ longest
+  short : (u : List ℕ) → front u ≡ Undecided → length u ≤ mostHeld
   short u e = go (opens u) refl (leb (size u) (length u)) refl
     where
-      go : (b : Bool) → opens u ≡ b → (c : Bool) → leb (size u) (length u) ≡ c → length u ≤ longest
+      go : (b : Bool) → opens u ≡ b → (c : Bool) → leb (size u) (length u) ≡ c → length u ≤ mostHeld
       go true p true q = let z : _≡_ {A = ℕ} 0 1 = cc in absurd (omega arith)
       go true p false q = omega (arith, leb-false (size u) (length u) q, H .bounds u)
       go false p c q = let z : _≡_ {A = ℕ} 0 1 = cc in absurd (omega arith)
 
-  pub framing : Framing front longest peek
+  pub framing : Framing front mostHeld peek
   framing =
       record {
         skip-stays = λ u v e. cc (H .opens-false u v (skip-opens u e));

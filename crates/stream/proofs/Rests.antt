@@ -13,14 +13,14 @@ use Rattle.stream.specs.Scan.{messageAt, Event, skipped, reported, event
 use Rattle.stream.specs.Cutting.{Continues}
 
 -- The same of a scan that first passes p bytes.
-module _ (front : List ℕ → Verdict) (longest : ℕ) where
+module _ (front : List ℕ → Verdict) (mostHeld : ℕ) where
   record Rest (p : ℕ) (u : List ℕ) (es : List Event) : Type 0 where
     goes : (v : List ℕ) → eventsPast front p (u ++ v) ≡ es ++ events front (drop (standing es + p) u ++ v)
     inside : standing es + p ≤ length u
-    few : length (drop (standing es + p) u) ≤ longest
+    few : length (drop (standing es + p) u) ≤ mostHeld
 
-module _ {front : List ℕ → Verdict} {longest peek : ℕ} (F : Framing front longest peek) where
-  rest : (p : ℕ) (u : List ℕ) → p ≤ length u → Rest front longest p u (eventsPast front p u)
+module _ {front : List ℕ → Verdict} {mostHeld peek : ℕ} (F : Framing front mostHeld peek) where
+  rest : (p : ℕ) (u : List ℕ) → p ≤ length u → Rest front mostHeld p u (eventsPast front p u)
   unfolding eventsPast
   rest zero [] l = record { goes = λ v. refl; inside = omega arith; few = omega arith }
   rest (suc p) [] l = absurd (omega arith)
@@ -30,8 +30,8 @@ module _ {front : List ℕ → Verdict} {longest peek : ℕ} (F : Framing front 
       record { goes = λ v. rw k (r .goes v); inside = omega (arith, r .inside); few = rw k (r .few) }
   rest zero (x ∷ xs) l = go (front (x ∷ xs)) refl (λ p h. rest p xs h)
     where
-      go : (d : Verdict) → front (x ∷ xs) ≡ d → ((p : ℕ) → p ≤ length xs → Rest front longest p xs (eventsPast front p xs))
-          → Rest front longest 0 (x ∷ xs) (eventsOn d (x ∷ xs) (λ p. eventsPast front p xs))
+      go : (d : Verdict) → front (x ∷ xs) ≡ d → ((p : ℕ) → p ≤ length xs → Rest front mostHeld p xs (eventsPast front p xs))
+          → Rest front mostHeld 0 (x ∷ xs) (eventsOn d (x ∷ xs) (λ p. eventsPast front p xs))
       go Skip e ih =
           let r = ih 0 (omega arith) in
           let es = eventsPast front 0 xs in
@@ -70,7 +70,7 @@ module _ {front : List ℕ → Verdict} {longest peek : ℕ} (F : Framing front 
             few = rw k (r .few);
           }
 
-  pub continues : (u : List ℕ) → Continues front longest u
+  pub continues : (u : List ℕ) → Continues front mostHeld u
   continues u =
       let r = rest 0 u (omega arith) in
       let k : standing (events front u) + 0 ≡ standing (events front u) = omega arith in

@@ -83,7 +83,7 @@ found-front front (x ∷ xs) k n good h = go (front (x ∷ xs)) refl (seek front
         rw p (e ∙ q)
 
 -- ---- For bytes that come in.
-module _ {front : List ℕ → Verdict} {longest peek : ℕ} (F : Framing front longest peek) where
+module _ {front : List ℕ → Verdict} {mostHeld peek : ℕ} (F : Framing front mostHeld peek) where
   pub found-stays : (u v : List ℕ) (k n : ℕ) (good : Bool) → seek front u ≡ Found k n good → seek front (u ++ v) ≡ Found k n good
   unfolding seek
   found-stays [] v k n good h = cc
@@ -98,7 +98,7 @@ module _ {front : List ℕ → Verdict} {longest peek : ℕ} (F : Framing front 
 
   -- The sizes of a found message, and that it is longer than what tells a skip.
   pub record Seen (u : List ℕ) (k n : ℕ) : Type 0 where
-    pub sized : Sized front longest u k n
+    pub sized : Sized front mostHeld u k n
     pub enough : peek ≤ n
 
   pub found-seen : (u : List ℕ) (k n : ℕ) (good : Bool) → seek front u ≡ Found k n good → Seen u k n

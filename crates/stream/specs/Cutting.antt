@@ -22,14 +22,14 @@ abbrev pub skipsThen : ℕ → Message → List Event
 skipsThen zero m = reported m ∷ []
 skipsThen (suc k) m = skipped ∷ skipsThen k m
 
-module _ (front : List ℕ → Verdict) (longest : ℕ) where
+module _ (front : List ℕ → Verdict) (mostHeld : ℕ) where
   -- A seek that is starved behind k bytes: the scan skips them, whatever follows, and finds nothing in the rest, which is
-  -- at most `longest` bytes.
+  -- at most `mostHeld` bytes.
   pub record StarvedAt (u : List ℕ) (k : ℕ) : Type 0 where
     pub goes : (v : List ℕ) → events front (u ++ v) ≡ skips k ++ events front (drop k u ++ v)
     pub ends : events front (drop k u) ≡ []
     pub inside : k ≤ length u
-    pub few : length (drop k u) ≤ longest
+    pub few : length (drop k u) ≤ mostHeld
 
   -- Seek and scan agree: what is sought in u is what the scan does first, whatever follows u.
   abbrev pub Agrees : List ℕ → Sought → Type 0
@@ -37,16 +37,16 @@ module _ (front : List ℕ → Verdict) (longest : ℕ) where
   Agrees u (Found k n good) =
       (v : List ℕ) → events front (u ++ v) ≡ skipsThen k (messageAt n good (drop k u)) ++ events front (drop (resume k n good) u ++ v)
 
-  -- The scan of u, whatever follows it: its events, then the scan of what it leaves, which is at most `longest` bytes.
+  -- The scan of u, whatever follows it: its events, then the scan of what it leaves, which is at most `mostHeld` bytes.
   pub record Continues (u : List ℕ) : Type 0 where
     pub goes : (v : List ℕ) → events front (u ++ v) ≡ events front u ++ events front (drop (standing (events front u)) u ++ v)
     pub inside : standing (events front u) ≤ length u
-    pub few : length (drop (standing (events front u)) u) ≤ longest
+    pub few : length (drop (standing (events front u)) u) ≤ mostHeld
 
   -- The sizes of a message that is found in u behind k bytes.
   pub record Sized (u : List ℕ) (k n : ℕ) : Type 0 where
     pub some : 1 ≤ n
-    pub most : n ≤ suc longest
+    pub most : n ≤ suc mostHeld
     pub inside : k + n ≤ length u
 
   pub record Cutting : Type 0 where
@@ -56,7 +56,7 @@ module _ (front : List ℕ → Verdict) (longest : ℕ) where
     pub scan-good : (u : List ℕ) (n : ℕ) → front u ≡ Whole n true → events front u ≡ reported (messageAt n true u) ∷ events front (drop n u)
     pub scan-damaged : (u : List ℕ) (n : ℕ) → front u ≡ Whole n false → events front u ≡ reported (messageAt n false u) ∷ events front (drop 1 u)
     -- An undecided front is short.
-    pub undecided-short : (u : List ℕ) → front u ≡ Undecided → length u ≤ longest
+    pub undecided-short : (u : List ℕ) → front u ≡ Undecided → length u ≤ mostHeld
     -- The scan of a stream that is cut goes on where it stood.
     pub continues : (u : List ℕ) → Continues u
     -- Seek and scan agree.
@@ -71,4 +71,4 @@ module _ (front : List ℕ → Verdict) (longest : ℕ) where
 
 -- Cutting is harmless for every framing that has the six laws.
 abbrev pub FramingCuts : Type 0
-FramingCuts = (front : List ℕ → Verdict) (longest peek : ℕ) → Framing front longest peek → Cutting front longest
+FramingCuts = (front : List ℕ → Verdict) (mostHeld peek : ℕ) → Framing front mostHeld peek → Cutting front mostHeld

@@ -25,11 +25,11 @@ abbrev pub frontBy : (List ℕ → Bool) → (List ℕ → ℕ) → (List ℕ �
 frontBy opens size valid u = frontOn (opens u) (verdictOn (leb (size u) (length u)) (size u) (valid (take (size u) u)))
 
 -- The laws that the scan needs of a framing. A skip and a message stay what they are when bytes are added; `peek` bytes
--- tell a skip, and a message's own bytes tell it; an undecided front is at most `longest` bytes.
-pub record Framing (front : List ℕ → Verdict) (longest peek : ℕ) : Type 0 where
+-- tell a skip, and a message's own bytes tell it; an undecided front is at most `mostHeld` bytes.
+pub record Framing (front : List ℕ → Verdict) (mostHeld peek : ℕ) : Type 0 where
   pub skip-stays : (u v : List ℕ) → front u ≡ Skip → front (u ++ v) ≡ Skip
   pub whole-stays : (u v : List ℕ) (n : ℕ) (good : Bool) → front u ≡ Whole n good → front (u ++ v) ≡ Whole n good
   pub skip-alone : (u v : List ℕ) → front (u ++ v) ≡ Skip → peek ≤ length u → front u ≡ Skip
   pub whole-alone : (u v : List ℕ) (n : ℕ) (good : Bool) → front (u ++ v) ≡ Whole n good → n ≤ length u → front u ≡ Whole n good
-  pub size : (u : List ℕ) (n : ℕ) (good : Bool) → front u ≡ Whole n good → (1 ≤ n) × (peek ≤ n) × (n ≤ suc longest) × (n ≤ length u)
-  pub short : (u : List ℕ) → front u ≡ Undecided → length u ≤ longest
+  pub size : (u : List ℕ) (n : ℕ) (good : Bool) → front u ≡ Whole n good → (1 ≤ n) × (peek ≤ n) × (n ≤ suc mostHeld) × (n ≤ length u)
+  pub short : (u : List ℕ) → front u ≡ Undecided → length u ≤ mostHeld

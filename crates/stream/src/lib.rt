@@ -4,7 +4,7 @@
 pub enum Verdict {
     // One byte is skipped.
     Skip,
-    // More bytes are needed to tell.
+    // More bytes are needed to tell; document 01's "undecided".
     Undecided,
     // A message: its length, and whether its sums are right (good) or wrong (damaged).
     Whole(usize, bool),

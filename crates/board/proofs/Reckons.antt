@@ -1,4 +1,4 @@
--- Demand 3: from a start on a blank or sound page, every list of feeds goes as the plain reckoning says.
+-- Demand 3: from a start on a unfed or sound page, every list of feeds goes as the plain reckoning says.
 use mathlib.Core.Bool.{Bool, true, false, not}
 use mathlib.Core.List.{List, [], _∷_}
 use mathlib.Core.Path.{_≡_, refl, sym, ap, _∙_, subst}
@@ -10,7 +10,7 @@ use Rattle.history.specs.Feeds.{Answer, Run, State, run}
 use Rattle.history.specs.Feeds.{Feed as FeedOf, portOf as keptPort}
 use Rattle.history.specs.Reckoning.{Ledger, heldOf, reckoning}
 use Rattle.history.specs.Program.{heldStep, heldProgram}
-use Rattle.history.specs.Ports.{blank, historyOf, PortAccount}
+use Rattle.history.specs.Ports.{PortHistory, unfed, historyAfter, historyOf, PortAccount}
 use Rattle.history.specs.Theorems.{Matches}
 use Rattle.history.proofs.Accounts.{portAccounts}
 use Rattle.history.proofs.Demand.{demand3, heldFew}
@@ -18,6 +18,7 @@ use Rattle.message.specs.Front.{front, mostUndecided}
 use Rattle.message.proofs.Framed.{cutting-harmless}
 use Rattle.page.specs.declared.setting.Values.{Values}
 use Rattle.page.specs.Page.{allAllowed, writing, pageSize}
+use Rattle.page.specs.Lookup.{valuesIn}
 use Rattle.page.specs.Sound.{sound, pageNumber}
 use Rattle.page.proofs.Pages.{sound-is-writing, writing-sound, sound-passes}
 use Rattle.page.specs.declared.setting.Setting.the-variants.{Baud, Accelerometer, Gyroscope}
@@ -30,8 +31,8 @@ use Rattle.board.specs.Port.{portRoom, heldBytes, portHolding, portOf}
 use Rattle.board.specs.Start.{freshBoard, startOf}
 use Rattle.board.specs.Feed.{Feeding, feedOf}
 use Rattle.board.specs.Handling.{Reckoned, Kept, settingsOf, reckonMessage, handleMessage, keptTests, StoredAs}
-use Rattle.board.specs.Runs.{Call, Calls, callsFrom, callsOn, feedsOf, reckonedOn, AllTold}
-use Rattle.board.specs.Theorems.{AsReckoned, Demand3, IsStart, EveryStart, PortsAddUp}
+use Rattle.board.specs.Runs.{Call, Calls, callsFrom, callsOn, feedsOf, reckonedOn, Told, AllTold}
+use Rattle.board.specs.Theorems.{AsReckoned, FromPage, Demand3, callsThen, OneMore, answersOf, historyOn, heldOn, PortAddsUp, SumLaw, ReportsScanned}
 use Rattle.board.proofs.Handles.{loaded-same, loaded-allowed, handles}
 use Rattle.board.proofs.Steps.{stateOf, Padded, Same, feedFrom, step-same}
 
@@ -137,22 +138,22 @@ module _ (v : Values) (cs : List Call) (a : allAllowed v ≡ true) where
       by-port zero = refl
       by-port (suc p) = refl
 
-  account : (port : ℕ) → port ≤ 1 → PortAccount front mostUndecided (historyOf port blank (feedsOf cs) (program .answers)) (keptPort port (program .final))
+  account : (port : ℕ) → port ≤ 1 → PortAccount front mostUndecided (historyOf port unfed (feedsOf cs) (program .answers)) (keptPort port (program .final))
   unfolding heldProgram
   account port h =
       portAccounts front mostUndecided replyRoom StoredAs reckonMessage keptTests handleMessage cutting-harmless handles port
       (record { settings = w; values = v }) (record { settings = w; page = writing v }) (feedsOf cs) h stored
 
-  added : (port : ℕ) → port ≤ 1 → PortAccount front mostUndecided (historyOf port blank (feedsOf cs) (reckoned .answers)) (heldBytes (portOf port (calls .board)))
+  added : (port : ℕ) → port ≤ 1 → PortAccount front mostUndecided (historyOf port unfed (feedsOf cs) (reckoned .answers)) (heldBytes (portOf port (calls .board)))
   added port h = rw (← matched .answers, ← port-held port) (account port h)
 
-pub ports-add-up : PortsAddUp
-ports-add-up v cs port a h =
+pub reports-scanned : ReportsScanned
+reports-scanned v cs port a h =
     let b : startOf (writing v) .board ≡ freshBoard (settingsOf v) = ap (λ (s : Started). s .board) (started v a) in
     rw b (added v cs a port h)
 
-pub board-demand3 : Demand3
-board-demand3 v cs a =
+as-reckoned : (v : Values) (cs : List Call) → allAllowed v ≡ true → AsReckoned v cs
+as-reckoned v cs a =
     let t = whole v cs a in
     let b : startOf (writing v) .board ≡ freshBoard (settingsOf v) = ap (λ (s : Started). s .board) (started v a) in
     record {
@@ -177,7 +178,55 @@ page-sound page e = go (eqb (length page) pageSize) refl (sound page) refl
     go true p true q = refl
     go true p false q = let z : _≡_ {A = ℕ} 0 20 = cc in absurd (omega arith)
 
-pub every-start : EveryStart
-every-start page e =
+pub board-demand3 : Demand3
+board-demand3 page cs e =
     let i = sound-is-writing page (page-sound page e) in
-    record { allowed-values = i .allowed-values; written = i .written }
+    record { values = valuesIn page; allowed-values = i .allowed-values; written = i .written; reckoned = as-reckoned (valuesIn page) cs (i .allowed-values) }
+
+pub one-more : OneMore
+unfolding callsFrom
+one-more b page [] c = refl
+one-more b page (d ∷ cs) c =
+    let f : Feeding = feedOf (d .port) b (d .chunk) (d .room) page in
+    ap (λ (r : Calls). record { feedings = f ∷ r .feedings; board = r .board; page = r .page }) (one-more (f .answer .board) (f .page) cs c)
+
+-- ---- the sum law, by the calls' own answers
+
+-- A history but for the messages reported, which the calls' own answers do not name.
+abbrev unnamed : PortHistory → PortHistory
+unnamed t = record { bytes = t .bytes; taken = t .taken; count = t .count; skips = t .skips; reports = []; last = t .last }
+
+after-unnamed : (m : Bool) (t : PortHistory) (c : Call) (f : Feeding) (a : Answer) → Told c f a
+    → historyAfter m (unnamed t) (c .chunk) (record { number = f .answer .number; taken = f .answer .taken; skipped = f .answer .skipped; saved = f .answer .saved; reply = []; reports = [] })
+    ≡ unnamed (historyAfter m t (c .chunk) a)
+after-unnamed false t c f a e = refl
+after-unnamed true t c f a e = rw (e .number, e .taken, e .skipped)
+
+same-history : (port : ℕ) (t : PortHistory) (cs : List Call) (fs : List Feeding) (answers : List Answer) → AllTold cs fs answers
+    → historyOf port (unnamed t) (feedsOf cs) (answersOf fs) ≡ unnamed (historyOf port t (feedsOf cs) answers)
+unfolding historyOf
+same-history port t [] [] [] e = refl
+same-history port t [] [] (a ∷ answers) e = absurd e
+same-history port t [] (f ∷ fs) answers e = absurd e
+same-history port t (c ∷ cs) [] answers e = absurd e
+same-history port t (c ∷ cs) (f ∷ fs) [] e = absurd e
+same-history port t (c ∷ cs) (f ∷ fs) (a ∷ answers) e =
+    rw (after-unnamed (eqb (c .port) port) t c f a (e .0))
+    (same-history port (historyAfter (eqb (c .port) port) t (c .chunk) a) cs fs answers (e .1))
+
+unnamed-adds : (t : PortHistory) (held : List ℕ) → PortAccount front mostUndecided t held → PortAddsUp (unnamed t) held
+unnamed-adds t held k =
+    record {
+      few = k .few;
+      taken = k .taken;
+      sum = rw (← k .first) (k .sum);
+      rest = rw (← k .first) (k .rest);
+      all = λ e. sym (k .first) ∙ k .all e;
+      all-skips = k .all-skips;
+    }
+
+pub sum-law : SumLaw
+sum-law v cs port a h =
+    let e : historyOn v cs port ≡ unnamed (historyOf port unfed (feedsOf cs) (reckonedOn v cs .answers)) =
+    same-history port unfed cs (callsOn v cs .feedings) (reckonedOn v cs .answers) (as-reckoned v cs a .told) in
+    rw e (unnamed-adds (historyOf port unfed (feedsOf cs) (reckonedOn v cs .answers)) (heldOn v cs port) (reports-scanned v cs port a h))
