@@ -1,0 +1,4 @@
+pub mod Backs
+pub mod Decimals
+pub mod Longest
+pub mod Puts
