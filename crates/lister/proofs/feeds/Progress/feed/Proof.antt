@@ -1,0 +1,42 @@
+-- `lister::feeds::Progress::feed` meets its contract.
+use Rattle.lister.proofs.Moved.{fed-moves}
+use borrow.Author.Needs.{needs}
+use Rattle.lister.proofs.feeds.Progress.feed.Statement.{statement}
+use Rattle.lister.proofs.feeds.Progress.feed.Tie as tie
+
+slice-aggregate-feed : tie.Need-slice-aggregate-feed
+slice-aggregate-feed c = search needs
+
+feed-requires : tie.Need-feed-requires
+feed-requires c κs = search needs
+
+wrapping-add-u64-requires : tie.Need-wrapping-add-u64-requires
+wrapping-add-u64-requires c κs = search needs
+
+wrapping-add-u64-requires-2 : tie.Need-wrapping-add-u64-requires-2
+wrapping-add-u64-requires-2 c κs = search needs
+
+gather-found-requires : tie.Need-gather-found-requires
+gather-found-requires c κs = search needs
+
+same-length : tie.Need-same-length
+same-length c = search needs
+
+same-length-2 : tie.Need-same-length-2
+same-length-2 c = search needs
+
+returns : tie.Need-returns
+returns c = search (fed-moves, needs)
+
+pub feed-spec : {M : Type 1} → statement M
+feed-spec =
+    tie.close
+    (tie.spec
+    slice-aggregate-feed
+    feed-requires
+    wrapping-add-u64-requires
+    wrapping-add-u64-requires-2
+    gather-found-requires
+    same-length
+    same-length-2
+    returns)

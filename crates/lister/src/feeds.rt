@@ -1,0 +1,72 @@
+// The feeds of a listing.
+ghost use Rattle.lister.specs.Moves.{Moves};
+use crate::output::gather_line;
+use board::Board;
+use board::Port;
+use std::num::wrapping_add_u64;
+
+// How far a listing has come.
+pub struct Progress {
+    pub board: Board,
+    // bytes over the whole input; 2^64 bytes cannot be read, so that these do not wrap
+    pub taken: u64,
+    pub skipped: u64,
+    // the last feed's number, and what it took
+    number: u8,
+    last: usize,
+    // how much of the output block is gathered
+    pub used: usize,
+}
+
+impl Progress {
+    pub(crate) fn start(page: &[u8], used: usize) -> Self {
+        let started = board::start(page);
+        let board = started.board;
+        Progress {
+            board,
+            taken: 0,
+            skipped: 0,
+            number: 0,
+            last: 0,
+            used,
+        }
+    }
+
+    // One feed, and the line of the message that it finds.
+    fn feed(self, chunk: &[u8], page: &mut [u8], out: &mut [u8]) -> Self
+        ensures { λ r. ⌜ Moves (self .board .first .held) (now (chunk .entry)) (r .number) (r .last) (r .board .first .held) ⌝ }
+    {
+        let mut reply = [0u8; Port::REPLY];
+        let before = self.board;
+        let fed = board::feed(0, before, chunk, &mut reply, page);
+        let after = fed.board;
+        Progress {
+            board: after,
+            taken: wrapping_add_u64(self.taken, fed.taken as u64),
+            skipped: wrapping_add_u64(self.skipped, fed.skipped as u64),
+            number: fed.number,
+            last: fed.taken,
+            used: gather_found(fed.number, &reply, fed.saved, self.used, out),
+        }
+    }
+}
+
+fn gather_found(number: u8, reply: &[u8; 16], saved: bool, used: usize, out: &mut [u8]) -> usize {
+    if number != 0 {
+        return used;
+    }
+    gather_line(reply, saved, used, out)
+}
+
+// Feeds a piece until a feed answers 1.
+pub(crate) fn feed_all(start: Progress, piece: &[u8], page: &mut [u8], out: &mut [u8]) -> Progress {
+    let mut p = start;
+    let mut at = 0;
+    loop {
+        p = p.feed(&piece[at..], page, out);
+        if p.number != 0 {
+            return p;
+        }
+        at += p.last;
+    }
+}

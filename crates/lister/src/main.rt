@@ -1,0 +1,38 @@
+// Reads standard input as port 0 of a board with a blank page, and prints the listing of it: the heading, a line for each
+// message that a feed answers, and the counts.
+mod feeds;
+mod output;
+
+use feeds::Progress;
+
+fn main() {
+    let mut out = io::large_buffer();
+    let mut page = [0xFFu8; 64];
+    let used = output::gather_heading(&mut out);
+    let end = list(Progress::start(&page, used), &mut page, &mut out);
+    let all = output::gather_counts(
+        end.taken,
+        end.skipped,
+        end.board.first.held,
+        end.used,
+        &mut out,
+    );
+    output::flush(all, &out);
+}
+
+// Feeds the input piece by piece, and then once more, at its end, with nothing. Nothing says that an input ends, so the
+// loop counts its turns down from a number that no run uses up.
+fn list(start: Progress, page: &mut [u8], out: &mut [u8]) -> Progress {
+    let mut piece = io::large_buffer();
+    let mut p = start;
+    let mut turns = u64::MAX;
+    while turns > 0 {
+        let n = io::read_full(0, &mut piece);
+        p = feeds::feed_all(p, &piece[..n], page, out);
+        if n == 0 {
+            return p;
+        }
+        turns -= 1;
+    }
+    p
+}
