@@ -1,14 +1,14 @@
 -- Digits stand for the number that they were made of.
 use Prim.Native.Nat.{ℕ, zero, suc, _+_, _-_, _*_, _/_, _%_, _≤_, _<_}
 use native.Mathlib.Omega.{arith}
-use mathlib.Core.Path.{_≡_, refl, ap, _∙_, sym}
-use mathlib.Core.Bool.{Bool, true, false, cond}
+use mathlib.Core.Path.{_≡_, refl, _∙_, sym}
+use mathlib.Core.Bool.{Bool, true, false}
 use mathlib.Core.List.{List, [], _∷_, _++_}
 use lib.Dec.{ltb}
-use lib.ListN.{length, getD, List·getD-append}
+use lib.ListN.{getD, List·getD-append}
 use borrow.Author.Tests.{lt-ltb, le-ltb, ltb-true, ltb-false}
 use Rattle.listing.specs.Text.{hexDigit, digits, places, decimalOf}
-use Rattle.listing.specs.Theorems.{valueFrom, valueOf, DecimalOf, DecimalBack, hexValue, HexBack}
+use Rattle.listing.specs.Theorems.{valueFrom, valueOf, DecimalBack, hexValue, HexBack}
 use Rattle.listing.proofs.Decimals.{tens, tenth-under, places-one, places-more, digits-length}
 
 value-last : (v : ℕ) (ds : List ℕ) (d : ℕ) → valueFrom v (ds ++ (d ∷ [])) ≡ 10 * valueFrom v ds + (d - 48)

@@ -3,12 +3,10 @@ use Prim.Native.Nat.{ℕ, suc, _+_, _-_, _/_, _%_, _≤_, _<_}
 use native.Mathlib.Omega.{arith}
 use mathlib.Core.Path.{_≡_, refl, ap, _∙_, sym}
 use mathlib.Core.Bool.{Bool, true, false}
-use mathlib.Core.List.{List, [], _∷_, _++_, append-assoc}
-use lib.Dec.{ltb}
+use mathlib.Core.List.{List, _++_, append-assoc}
 use lib.ListN.{length, take, drop, set, length-append, take-append-drop}
-use lib.Seq.{sets, sets-eq, paste, take-length, take-paste, drop-paste, take-at, drop-at, drop-drop, length-take-le}
+use lib.Seq.{sets-eq, paste, take-length, take-at, drop-at, drop-drop, length-take-le}
 use borrow.Author.Tests.{lt-ltb, le-ltb}
-use Rattle.message.specs.declared.write.Written.{Written}
 use Rattle.message.specs.Write.{Writing, refusedWriting, writingOf}
 use Rattle.listing.specs.Put.{Put}
 use Rattle.listing.specs.Text.{hexDigit, hexOf, blank, newline, pageOf, decimalOf, lineOf, countsOf, takenWord, skippedWord, heldWord}

@@ -1,6 +1,5 @@
 -- `lister::list` is safe and ends: the turns are counted down.
 use mathlib.Core.Path.{_≡_}
-use native.Mathlib.Omega.{arith}
 use borrow.Author.Needs.{needs}
 use lib.ListN.{length}
 use Rattle.lister.proofs.list.Statement.{statement}

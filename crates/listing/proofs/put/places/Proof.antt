@@ -1,5 +1,4 @@
 -- `listing::put::places` meets its contract. Invariant: `k - 1` digits are passed, and `rest` has the others.
-use native.Mathlib.Omega.{arith}
 use borrow.Author.Needs.{needs}
 use Rattle.listing.specs.Text.{places}
 use Rattle.listing.proofs.Decimals.{Counting, counting-starts, counting-goes-on, counting-ends}

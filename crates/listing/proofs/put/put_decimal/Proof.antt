@@ -1,9 +1,5 @@
 -- `listing::put::put_decimal` meets its contract. Invariant: the digits from place i on stand in the buffer.
-use Prim.Native.Nat.{_≤_, _+_}
-use mathlib.Core.Path.{_≡_}
-use native.Mathlib.Omega.{arith}
 use borrow.Author.Needs.{needs}
-use Rattle.listing.specs.Text.{places}
 use Rattle.listing.proofs.Decimals.{Spelling, spelling-starts, spelling-goes-on, spelling-ends}
 use Rattle.listing.proofs.put.put_decimal.Statement.{statement}
 use Rattle.listing.proofs.put.put_decimal.Tie as tie
