@@ -27,13 +27,10 @@ fn command(args: &[u8], out: Output) -> Output {
         return out.bad_line();
     };
     let others = text::other_words(args);
-    let Number::Value(function) = text::read_decimal(text::first_word(others)) else {
+    let Octet::Value(function) = text::read_small(text::first_word(others)) else {
         return out.bad_line();
     };
-    if function > 255 {
-        return out.bad_line();
-    }
-    command_with(code, function as u8, text::other_words(others), out)
+    command_with(code, function, text::other_words(others), out)
 }
 
 // The value and the room's length are still to be read.

@@ -67,6 +67,17 @@ pub(crate) fn prefix(s: &[u8], n: usize) -> &[u8] {
     &s[0..n]
 }
 
+// The bytes from..to, none where there are no such.
+pub(crate) fn part(s: &[u8], from: usize, to: usize) -> &[u8] {
+    if to > s.len() {
+        return &s[..0];
+    }
+    if from > to {
+        return &s[..0];
+    }
+    &s[from..to]
+}
+
 // A decimal number of at most ten digits, but for zeros in front.
 pub(crate) fn read_decimal(s: &[u8]) -> Number {
     if s.len() == 0 {
@@ -82,6 +93,17 @@ pub(crate) fn read_decimal(s: &[u8]) -> Number {
         i += 1;
     }
     Number::Value(value)
+}
+
+// A decimal number of one byte.
+pub(crate) fn read_small(s: &[u8]) -> Octet {
+    let Number::Value(n) = read_decimal(s) else {
+        return Octet::Bad;
+    };
+    if n > 255 {
+        return Octet::Bad;
+    }
+    Octet::Value(n as u8)
 }
 
 fn with_digit(value: usize, b: u8) -> Number {

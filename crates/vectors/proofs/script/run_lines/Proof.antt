@@ -2,20 +2,14 @@
 use Prim.Native.Nat.{_≤_, _+_, _-_}
 use borrow.Author.Needs.{needs}
 use lib.ListN.{length}
-use Rattle.vectors.proofs.run.Statement.{statement}
-use Rattle.vectors.proofs.run.Tie as tie
+use Rattle.vectors.proofs.script.run_lines.Statement.{statement}
+use Rattle.vectors.proofs.script.run_lines.Tie as tie
 
 abbrev Inv-loop : tie.InvT-loop
-Inv-loop script board₀ out₀ at₀ board out at = at ≤ length script + 1
+Inv-loop lines bench₀ out₀ at₀ bench out at = at ≤ length lines + 1
 
 abbrev μ-loop : tie.MeasureT-loop
-μ-loop script board₀ out₀ at₀ board out at = (length script + 1) - at
-
-blank-requires : tie.Need-blank-requires Inv-loop μ-loop
-blank-requires c κs = search needs
-
-new-requires : tie.Need-new-requires Inv-loop μ-loop
-new-requires c κs = search needs
+μ-loop lines bench₀ out₀ at₀ bench out at = (length lines + 1) - at
 
 loop-holds : tie.Need-loop-holds Inv-loop μ-loop
 loop-holds c = search needs
@@ -50,14 +44,12 @@ loop-again c = search needs
 returns : tie.Need-returns Inv-loop μ-loop
 returns c = search needs
 
-pub run-spec : {M : Type 1} → statement M
-run-spec =
+pub run-lines-spec : {M : Type 1} → statement M
+run-lines-spec =
     tie.close
     (tie.spec
     Inv-loop
     μ-loop
-    blank-requires
-    new-requires
     loop-holds
     find-requires
     sub-run-line

@@ -1,0 +1,189 @@
+// The board that the lines of a script go on with, and its page.
+ghost use Prim.Native.Nat.{_≤_};
+use crate::output::Output;
+use crate::text;
+use board::Board;
+use board::Fed;
+use board::Port;
+use command::Handled;
+use command::Settings;
+
+// The page has the first `length` of the bytes, so that it can be one of more than 64 bytes too.
+pub struct Bench {
+    pub board: Board,
+    bytes: [u8; 80],
+    length: usize,
+}
+
+// What a line leaves: the bench, and what is printed.
+pub struct Told {
+    pub bench: Bench,
+    pub out: Output,
+}
+
+// What handling a message answers, and the bench after it.
+pub struct HandleStep {
+    pub handled: Handled,
+    pub bench: Bench,
+}
+
+// The same of a feed.
+pub struct FeedStep {
+    pub fed: Fed,
+    pub bench: Bench,
+}
+
+impl Bench {
+    pub(crate) fn on(board: Board, bytes: [u8; 80], length: usize) -> Self {
+        Bench {
+            board,
+            bytes,
+            length,
+        }
+    }
+
+    pub(crate) fn blank() -> Self {
+        let bytes = [0xFFu8; 80];
+        let started = board::start(text::prefix(&bytes, 64));
+        let board = started.board;
+        Bench::on(board, bytes, 64)
+    }
+
+    pub(crate) fn with_board(self, board: Board) -> Self {
+        let bytes = self.bytes;
+        Bench::on(board, bytes, self.length)
+    }
+
+    pub(crate) fn with_settings(self, settings: Settings) -> Self {
+        let board = self.board;
+        let first = board.first;
+        let second = board.second;
+        self.with_board(Board {
+            first,
+            second,
+            settings,
+        })
+    }
+
+    // Port 0, or the other one.
+    pub(crate) fn with_port(self, number: u8, port: Port) -> Self {
+        let board = self.board;
+        let settings = board.settings;
+        let first = board.first;
+        let second = board.second;
+        if number == 0 {
+            return self.with_board(Board {
+                first: port,
+                second,
+                settings,
+            });
+        }
+        self.with_board(Board {
+            first,
+            second: port,
+            settings,
+        })
+    }
+
+    pub(crate) fn port(self, number: u8) -> Port {
+        let board = self.board;
+        if number == 0 {
+            board.first
+        } else {
+            board.second
+        }
+    }
+
+    // Handles a message as if `room` ended after `n` bytes.
+    pub(crate) fn handle(self, message: &[u8], room: &mut [u8], n: usize) -> HandleStep {
+        let mut bytes = self.bytes;
+        let board = self.board;
+        let settings = board.settings;
+        let length = self.length;
+        let handled = handle_parts(message, settings, room, n, &mut bytes, length);
+        let after = handled.settings;
+        let changed = self.with_settings(after);
+        let same = changed.board;
+        let bench = Bench::on(same, bytes, length);
+        HandleStep { handled, bench }
+    }
+
+    // Feeds a chunk to a port as if `room` ended after `n` bytes.
+    pub(crate) fn feed(self, port: u8, chunk: &[u8], room: &mut [u8], n: usize) -> FeedStep {
+        let mut bytes = self.bytes;
+        let board = self.board;
+        let length = self.length;
+        let fed = feed_parts(port, board, chunk, room, n, &mut bytes, length);
+        let after = fed.board;
+        let bench = Bench::on(after, bytes, length);
+        FeedStep { fed, bench }
+    }
+
+    pub(crate) fn same_page(self, other: Bench) -> bool {
+        text::same(&self.bytes, &other.bytes)
+    }
+
+    // Only where it has changed.
+    pub(crate) fn say_page(self, before: Bench, out: Output) -> Output {
+        if self.same_page(before) {
+            return out;
+        }
+        out.text(b", page ")
+            .bytes(text::prefix(&self.bytes, self.length))
+    }
+}
+
+// The same over a page that ends after `k` bytes.
+fn handle_parts(
+    message: &[u8],
+    w: Settings,
+    room: &mut [u8],
+    n: usize,
+    page: &mut [u8],
+    k: usize,
+) -> Handled {
+    let r = within(n, room.len());
+    let p = within(k, page.len());
+    command::handle_message(message, w, &mut room[0..r], &mut page[0..p])
+}
+
+fn feed_parts(
+    port: u8,
+    board: Board,
+    chunk: &[u8],
+    room: &mut [u8],
+    n: usize,
+    page: &mut [u8],
+    k: usize,
+) -> Fed {
+    let r = within(n, room.len());
+    let p = within(k, page.len());
+    board::feed(port, board, chunk, &mut room[0..r], &mut page[0..p])
+}
+
+// The smaller of the two.
+fn within(n: usize, length: usize) -> usize
+    ensures { λ r. ⌜ r ≤ length ⌝ }
+{
+    if n < length { n } else { length }
+}
+
+pub(crate) fn bad_line(bench: Bench, out: Output) -> Told {
+    let told = out.bad_line();
+    Told { bench, out: told }
+}
+
+pub(crate) fn say_settings(w: Settings, out: Output) -> Output {
+    out.decimal(w.baud as u64)
+        .byte(b' ')
+        .decimal(w.accelerometer as u64)
+        .byte(b' ')
+        .decimal(w.gyroscope as u64)
+}
+
+pub(crate) fn say_saved(saved: bool, out: Output) -> Output {
+    if saved {
+        return out.text(b", saved, ");
+    }
+    out.text(b", same, ")
+}

@@ -1,0 +1,162 @@
+// The verbs on a board that is fed: feed, held, settings, port.
+use crate::bench;
+use crate::bench::Bench;
+use crate::bench::Told;
+use crate::output::Output;
+use crate::streams;
+use crate::text;
+use crate::text::MOST;
+use crate::text::Number;
+use crate::text::Octet;
+use board::Board;
+use board::Fed;
+use board::Port;
+use command::Settings;
+
+pub(crate) fn outcome(verb: &[u8], args: &[u8], bench: Bench, out: Output) -> Told {
+    if text::same(verb, b"feed") {
+        return feed(args, bench, out);
+    }
+    if text::same(verb, b"held") {
+        return hold(args, bench, out);
+    }
+    if text::same(verb, b"settings") {
+        return set(args, bench, out);
+    }
+    if text::same(verb, b"port") {
+        return show(args, bench, out);
+    }
+    let told = streams::outcome(verb, args, out);
+    Told { bench, out: told }
+}
+
+fn feed(args: &[u8], bench: Bench, out: Output) -> Told {
+    let Octet::Value(port) = text::read_small(text::first_word(args)) else {
+        return bench::bad_line(bench, out);
+    };
+    let others = text::other_words(args);
+    let Number::Value(length) = text::read_decimal(text::first_word(others)) else {
+        return bench::bad_line(bench, out);
+    };
+    let mut chunk = [0u8; MOST];
+    let Number::Value(n) = text::read_bytes(text::other_words(others), &mut chunk) else {
+        return bench::bad_line(bench, out);
+    };
+    if length > MOST {
+        return bench::bad_line(bench, out);
+    }
+    let mut room = [0xEEu8; MOST];
+    let step = bench.feed(port, text::prefix(&chunk, n), &mut room, length);
+    let fed = step.fed;
+    let after = step.bench;
+    let told = say_fed(fed, out)
+        .text(b", room ")
+        .bytes(text::prefix(&room, length));
+    Told {
+        bench: after,
+        out: after.say_page(bench, told),
+    }
+}
+
+fn say_fed(fed: Fed, out: Output) -> Output {
+    let board = fed.board;
+    let told = out.decimal(fed.number as u64)
+        .text(b", taken ")
+        .decimal(fed.taken as u64)
+        .text(b", skipped ")
+        .decimal(fed.skipped as u64);
+    say_board(board, bench::say_saved(fed.saved, told))
+}
+
+fn say_board(board: Board, out: Output) -> Output {
+    let settings = board.settings;
+    let first = board.first;
+    let second = board.second;
+    bench::say_settings(settings, out)
+        .text(b", held ")
+        .decimal(first.held as u64)
+        .byte(b' ')
+        .decimal(second.held as u64)
+}
+
+// Makes a port of the bytes given, zeros behind them, whatever the count says.
+fn hold(args: &[u8], bench: Bench, out: Output) -> Told {
+    let Octet::Value(number) = text::read_small(text::first_word(args)) else {
+        return bench::bad_line(bench, out);
+    };
+    let others = text::other_words(args);
+    let Number::Value(held) = text::read_decimal(text::first_word(others)) else {
+        return bench::bad_line(bench, out);
+    };
+    let mut bytes = [0u8; Port::ROOM];
+    let Number::Value(n) = text::read_bytes(text::other_words(others), &mut bytes) else {
+        return bench::bad_line(bench, out);
+    };
+    if number > 1 {
+        return bench::bad_line(bench, out);
+    }
+    let port = Port { bytes, held };
+    let told = out.decimal(n as u64).text(b" bytes");
+    Told {
+        bench: bench.with_port(number, port),
+        out: told,
+    }
+}
+
+fn set(args: &[u8], bench: Bench, out: Output) -> Told {
+    let Number::Value(baud) = text::read_decimal(text::first_word(args)) else {
+        return bench::bad_line(bench, out);
+    };
+    if baud > 0xFFFF_FFFF {
+        return bench::bad_line(bench, out);
+    }
+    let others = text::other_words(args);
+    let Octet::Value(accelerometer) = text::read_small(text::first_word(others)) else {
+        return bench::bad_line(bench, out);
+    };
+    let Octet::Value(gyroscope) = text::read_small(text::other_words(others)) else {
+        return bench::bad_line(bench, out);
+    };
+    let settings = Settings {
+        baud: baud as u32,
+        accelerometer,
+        gyroscope,
+    };
+    Told {
+        bench: bench.with_settings(settings),
+        out: bench::say_settings(settings, out),
+    }
+}
+
+fn show(args: &[u8], bench: Bench, out: Output) -> Told {
+    let Octet::Value(number) = text::read_small(args) else {
+        return bench::bad_line(bench, out);
+    };
+    if number > 1 {
+        return bench::bad_line(bench, out);
+    }
+    let told = say_port(bench.port(number), out);
+    Told { bench, out: told }
+}
+
+fn say_port(port: Port, out: Output) -> Output {
+    let held = port.held;
+    let told = out.decimal(held as u64)
+        .text(b" held, ")
+        .bytes(text::prefix(&port.bytes, held));
+    if is_zero_from(&port.bytes, held) {
+        return told.text(b", then zero");
+    }
+    told.text(b", then not zero")
+}
+
+fn is_zero_from(s: &[u8], from: usize) -> bool {
+    let mut i = from;
+    while i < s.len() {
+        if s[i] != 0 {
+            return false;
+        }
+        i += 1;
+    }
+    true
+}
