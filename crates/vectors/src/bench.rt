@@ -102,9 +102,8 @@ impl Bench {
         let length = self.length;
         let handled = handle_parts(message, settings, room, n, &mut bytes, length);
         let after = handled.settings;
-        let changed = self.with_settings(after);
-        let same = changed.board;
-        let bench = Bench::on(same, bytes, length);
+        let changed = self.with_settings(after).board;
+        let bench = Bench::on(changed, bytes, length);
         HandleStep { handled, bench }
     }
 

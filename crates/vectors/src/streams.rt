@@ -262,7 +262,7 @@ fn digest(from: u64, s: &[u8]) -> u64 {
     d
 }
 
-// Below a prime of 32 bits, each byte counts in every later digest.
+// Reduced by a prime of 32 bits first, so that the next digest fits.
 fn mixed(d: u64, b: u8) -> u64 {
     (d % 4294967291) * 257 + b as u64 + 1
 }
