@@ -4,6 +4,7 @@ mod bench;
 mod boards;
 mod commands;
 mod feeds;
+mod listings;
 mod messages;
 mod output;
 mod pages;

@@ -1,6 +1,6 @@
 // The verb `stream`: the same bytes in pieces of several sizes, to either port alone and to both in turn.
 use crate::bench::Bench;
-use crate::messages;
+use crate::listings;
 use crate::output::Output;
 use crate::text;
 use crate::text::MOST;
@@ -44,7 +44,7 @@ pub(crate) fn outcome(verb: &[u8], args: &[u8], out: Output) -> Output {
     if text::same(verb, b"stream") {
         return stream(args, out);
     }
-    messages::outcome(verb, args, out)
+    listings::outcome(verb, args, out)
 }
 
 fn stream(args: &[u8], out: Output) -> Output {

@@ -1,0 +1,104 @@
+// The verb `list`: the listing of some bytes.
+use crate::bench::Bench;
+use crate::messages;
+use crate::output::Output;
+use crate::text;
+use crate::text::MOST;
+use crate::text::Number;
+use listing::LONGEST_COUNTS;
+use listing::LONGEST_LINE;
+
+// A feed that reports a message leaves fewer bytes, held or in the chunk.
+const TURNS: usize = MOST + 1;
+
+// How far a listing has come.
+struct Page {
+    bench: Bench,
+    taken: usize,
+    skipped: usize,
+    out: Output,
+}
+
+pub(crate) fn outcome(verb: &[u8], args: &[u8], out: Output) -> Output {
+    if text::same(verb, b"list") {
+        return list(args, out);
+    }
+    messages::outcome(verb, args, out)
+}
+
+fn list(args: &[u8], out: Output) -> Output {
+    let mut bytes = [0u8; MOST];
+    let Number::Value(n) = text::read_bytes(args, &mut bytes) else {
+        return out.bad_line();
+    };
+    say_counts(feed_all(text::prefix(&bytes, n), say_heading(out)))
+}
+
+// Adds a line of a listing, up to its end, as a line of its own.
+fn say_line(line: &[u8], out: Output) -> Output {
+    let end = text::find(line, b'\n', 0);
+    out.byte(b'\n').text(text::prefix(line, end))
+}
+
+fn say_heading(out: Output) -> Output {
+    let mut line = [0u8; LONGEST_COUNTS];
+    listing::write_heading(&mut line);
+    say_line(&line, out)
+}
+
+// Feeds until a feed answers 1.
+fn feed_all(s: &[u8], out: Output) -> Page {
+    let mut page = Page {
+        bench: Bench::blank(),
+        taken: 0,
+        skipped: 0,
+        out,
+    };
+    let mut turn = 0;
+    while turn < TURNS {
+        let mut room = [0u8; 16];
+        let step = page.bench
+            .feed(0, text::part(s, page.taken, s.len()), &mut room, 16);
+        let fed = step.fed;
+        page = page.after(step.bench, fed.taken, fed.skipped);
+        if fed.number != 0 {
+            return page;
+        }
+        page = page.with_line(&room, fed.saved);
+        turn += 1;
+    }
+    page
+}
+
+impl Page {
+    fn after(self, bench: Bench, taken: usize, skipped: usize) -> Self {
+        let out = self.out;
+        Page {
+            bench,
+            taken: std::num::wrapping_add_usize(self.taken, taken),
+            skipped: std::num::wrapping_add_usize(self.skipped, skipped),
+            out,
+        }
+    }
+
+    // The type, the echo and the error stand in the reply's bytes 2, 6 and 7.
+    fn with_line(self, reply: &[u8; 16], saved: bool) -> Self {
+        let mut line = [0u8; LONGEST_LINE];
+        listing::write_line(reply[2], reply[6], reply[7], saved, &mut line);
+        let bench = self.bench;
+        let out = say_line(&line, self.out);
+        Page {
+            bench,
+            taken: self.taken,
+            skipped: self.skipped,
+            out,
+        }
+    }
+}
+
+fn say_counts(page: Page) -> Output {
+    let mut line = [0u8; LONGEST_COUNTS];
+    let port = page.bench.port(0);
+    listing::write_counts(page.taken as u64, page.skipped as u64, port.held, &mut line);
+    say_line(&line, page.out)
+}
