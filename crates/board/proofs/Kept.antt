@@ -45,6 +45,9 @@ module _ (b c : List ℕ) (held : ℕ) (few : held ≤ 260) (long : length b ≡
   pub mix-length : length (take i p ++ drop i b) ≡ 260
   mix-length = rw (length-append, tl, length-drop) (omega arith)
 
+  pub mix-long : (x : List ℕ) → x ≡ take i p ++ drop i b → length x ≡ 260
+  mix-long x e = ap length e ∙ mix-length
+
   mix-at : (j : ℕ) → i ≤ j → getD (take i p ++ drop i b) j 0 ≡ getD b j 0
   mix-at j h =
       let k : i + (j - i) ≡ j = omega arith in
@@ -68,6 +71,9 @@ clear-suc b n j h k =
     rw (drop-cons b j 0 k, set-at (take n b ++ replicate (j - n) 0) (getD b j 0) (drop (suc j) b) 0 j l, q, ← t, add-one)
     (simp append-assoc)
 
+pub clear-length : (b x : List ℕ) (n j : ℕ) → n ≤ j → j ≤ 260 → length b ≡ 260 → x ≡ take n b ++ replicate (j - n) 0 ++ drop j b → length x ≡ 260
+clear-length b x n j h k l e = rw (e, length-append, length-append, length-take-le n b (omega arith), length-replicate, length-drop) (omega arith)
+
 pub clear-none : (b : List ℕ) (n : ℕ) → b ≡ take n b ++ replicate (n - n) 0 ++ drop n b
 clear-none b n = sym (rw (sub-self, append-nil) (take-append-drop n b))
 
@@ -85,6 +91,3 @@ module _ (b c : List ℕ) (held from to : ℕ) (few : held ≤ 260) (long : leng
   pub keep-whole : (x y : List ℕ) → x ≡ take (to - from) (drop from (take held b ++ c)) ++ drop (to - from) b → y ≡ take (to - from) x ++ replicate (260 - (to - from)) 0
       → y ≡ padded (take (to - from) (drop from (take held b ++ c)))
   keep-whole x y e f = f ∙ rw (e, take-at (take (to - from) (drop from (take held b ++ c))) (drop (to - from) b) (to - from) pl, pl)
-
-pub keep-none : (w : List ℕ) (n from : ℕ) → n ≡ 0 → replicate 260 0 ≡ padded (take n (drop from w))
-keep-none w n from h = rw h

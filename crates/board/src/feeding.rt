@@ -82,7 +82,7 @@ fn skipped_with(k: usize, good: bool) -> usize
 
 // Keeps what a found message leaves of the bytes held and taken, and says how many they are.
 fn keep_after(
-    bytes: &mut [u8; 260],
+    bytes: &mut [u8],
     held: usize,
     chunk: &[u8],
     k: usize,
@@ -111,7 +111,7 @@ pub struct Stepped {
 }
 
 // A step where nothing is found: the whole chunk is taken.
-fn step_starved(bytes: &mut [u8; 260], held: usize, chunk: &[u8], k: usize, w: Settings) -> Stepped
+fn step_starved(bytes: &mut [u8], held: usize, chunk: &[u8], k: usize, w: Settings) -> Stepped
     requires { ⌜ (held ≤ 260) × (length (now bytes) ≡ 260) ⌝ }
     requires { ⌜ seek front (take held (now bytes) ++ now chunk) ≡ Starved k ⌝ }
     ensures { λ r. ⌜ r ≡ record { number = 1; taken = length (now (chunk .entry)); skipped = k; saved = false; held = length (drop k (take held (now (bytes .entry)) ++ now (chunk .entry))); settings = w } ⌝ }
@@ -131,7 +131,7 @@ fn step_starved(bytes: &mut [u8; 260], held: usize, chunk: &[u8], k: usize, w: S
 
 // A step where a message is found: it is handled, and bytes are taken up to its end.
 fn step_found(
-    bytes: &mut [u8; 260],
+    bytes: &mut [u8],
     held: usize,
     chunk: &[u8],
     k: usize,
@@ -161,7 +161,7 @@ fn step_found(
 
 // One accepted feed of a port, in its array.
 fn step(
-    bytes: &mut [u8; 260],
+    bytes: &mut [u8],
     held: usize,
     chunk: &[u8],
     w: Settings,
@@ -177,6 +177,21 @@ fn step(
     }
 }
 
+// The same in a port's own array.
+fn step_port(
+    bytes: &mut [u8; 260],
+    held: usize,
+    chunk: &[u8],
+    w: Settings,
+    room: &mut [u8],
+    page: &mut [u8],
+) -> Stepped
+    requires { ⌜ (held ≤ 260) × (length (now bytes) ≡ 260) ⌝ }
+    ensures { λ r. ⌜ record { step = r; bytes = now (bytes .exit); room = now (room .exit); page = now (page .exit) } ≡ inPlace (stepOf (take held (now (bytes .entry))) w (now (chunk .entry)) (now (room .entry)) (now (page .entry))) ⌝ }
+{
+    step(bytes, held, chunk, w, room, page)
+}
+
 // A feed of a sound board's first port, in its place: the second port is not touched.
 fn feed_first(mut board: Board, chunk: &[u8], room: &mut [u8], page: &mut [u8]) -> Fed
     requires { ⌜ board .first .held ≤ 260 ⌝ }
@@ -184,7 +199,7 @@ fn feed_first(mut board: Board, chunk: &[u8], room: &mut [u8], page: &mut [u8]) 
 {
     let held = board.first.held;
     let w = board.settings;
-    let s = step(&mut board.first.bytes, held, chunk, w, room, page);
+    let s = step_port(&mut board.first.bytes, held, chunk, w, room, page);
     board.first.held = s.held;
     board.settings.baud = s.settings.baud;
     board.settings.accelerometer = s.settings.accelerometer;
@@ -205,7 +220,7 @@ fn feed_second(mut board: Board, chunk: &[u8], room: &mut [u8], page: &mut [u8])
 {
     let held = board.second.held;
     let w = board.settings;
-    let s = step(&mut board.second.bytes, held, chunk, w, room, page);
+    let s = step_port(&mut board.second.bytes, held, chunk, w, room, page);
     board.second.held = s.held;
     board.settings.baud = s.settings.baud;
     board.settings.accelerometer = s.settings.accelerometer;

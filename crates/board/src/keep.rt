@@ -6,7 +6,7 @@ ghost use Prim.Native.Nat.{_+_, _-_, _≤_, _<_};
 ghost use Rattle.board.specs.Port.{padded};
 
 // Byte `i` of the first `held` bytes and then the chunk.
-fn byte_of(bytes: &[u8; 260], held: usize, chunk: &[u8], i: usize) -> u8
+fn byte_of(bytes: &[u8], held: usize, chunk: &[u8], i: usize) -> u8
     requires { ⌜ (held ≤ 260) × (i < held + length (now chunk)) × (length (now bytes) ≡ 260) ⌝ }
     ensures { λ r. ⌜ r ≡ getD (take held (now (bytes .entry)) ++ now (chunk .entry)) i 0 ⌝ }
 {
@@ -14,7 +14,7 @@ fn byte_of(bytes: &[u8; 260], held: usize, chunk: &[u8], i: usize) -> u8
 }
 
 // Moves the `n` bytes from `from` on to the front. They never move back, so none is overwritten before it is read.
-fn shift(bytes: &mut [u8; 260], held: usize, chunk: &[u8], from: usize, n: usize)
+fn shift(bytes: &mut [u8], held: usize, chunk: &[u8], from: usize, n: usize)
     requires { ⌜ (held ≤ 260) × (from + n ≤ held + length (now chunk)) × (n ≤ 260) × (length (now bytes) ≡ 260) ⌝ }
     ensures { λ _. ⌜ now (bytes .exit) ≡ take n (drop from (take held (now (bytes .entry)) ++ now (chunk .entry))) ++ drop n (now (bytes .entry)) ⌝ }
 {
@@ -26,7 +26,7 @@ fn shift(bytes: &mut [u8; 260], held: usize, chunk: &[u8], from: usize, n: usize
     }
 }
 
-fn clear_from(bytes: &mut [u8; 260], n: usize)
+fn clear_from(bytes: &mut [u8], n: usize)
     requires { ⌜ (n ≤ 260) × (length (now bytes) ≡ 260) ⌝ }
     ensures { λ _. ⌜ now (bytes .exit) ≡ take n (now (bytes .entry)) ++ replicate (260 - n) 0 ⌝ }
 {
@@ -38,15 +38,11 @@ fn clear_from(bytes: &mut [u8; 260], n: usize)
 }
 
 // Keeps the bytes from..to of those held and then the chunk, with zeros past them.
-pub(crate) fn keep_part(bytes: &mut [u8; 260], held: usize, chunk: &[u8], from: usize, to: usize)
+pub(crate) fn keep_part(bytes: &mut [u8], held: usize, chunk: &[u8], from: usize, to: usize)
     requires { ⌜ (held ≤ 260) × (from ≤ to) × (to ≤ held + length (now chunk)) × (to - from ≤ 260) × (length (now bytes) ≡ 260) ⌝ }
     ensures { λ _. ⌜ now (bytes .exit) ≡ padded (take (to - from) (drop from (take held (now (bytes .entry)) ++ now (chunk .entry)))) ⌝ }
 {
     let n = to - from;
-    if n == 0 {
-        *bytes = [0u8; 260];
-        return;
-    }
     shift(bytes, held, chunk, from, n);
     clear_from(bytes, n);
 }

@@ -20,14 +20,20 @@ enum-known-k-2 c = search needs
 step-found-requires : tie.Need-step-found-requires
 step-found-requires c κs = (search needs, search (sought-is, needs))
 
-returns : tie.Need-returns
-returns c = search (starved-step, sought-is, needs)
-
 same-length : tie.Need-same-length
 same-length c = search needs
 
+returns : tie.Need-returns
+returns c = search (starved-step, sought-is, needs)
+
 same-length-2 : tie.Need-same-length-2
 same-length-2 c = search needs
+
+same-length-3 : tie.Need-same-length-3
+same-length-3 c = search needs
+
+same-length-4 : tie.Need-same-length-4
+same-length-4 c = search needs
 
 returns-2 : tie.Need-returns-2
 returns-2 c = search needs
@@ -41,7 +47,9 @@ step-spec =
     step-starved-requires
     enum-known-k-2
     step-found-requires
-    returns
     same-length
+    returns
     same-length-2
+    same-length-3
+    same-length-4
     returns-2)

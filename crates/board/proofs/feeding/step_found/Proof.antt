@@ -9,7 +9,7 @@ use Rattle.board.proofs.feeding.step_found.Tie as tie
 
 add-excess : tie.Need-add-excess
 add-excess c =
-    let h : c .before .before .before .args .k + c .before .before .before .args .n ≤ c .before .before .before .args .held + length (c .before .before .before .args .chunk .now) = search (found-in, needs) in
+    let h : c .before .before .before .before .args .k + c .before .before .before .before .args .n ≤ c .before .before .before .before .args .held + length (c .before .before .before .before .args .chunk .now) = search (found-in, needs) in
     search needs
 
 excess-requires : tie.Need-excess-requires
@@ -17,8 +17,8 @@ excess-requires c κs = search needs
 
 skipped-with-requires : tie.Need-skipped-with-requires
 skipped-with-requires c κs =
-    let h : c .before .before .before .before .args .k + c .before .before .before .before .args .n ≤ c .before .before .before .before .args .held + length (c .before .before .before .before .args .chunk .now) = search (found-in, needs) in
-    let s : 1 ≤ c .before .before .before .before .args .n = search (found-some, needs) in
+    let h : c .before .before .before .before .before .args .k + c .before .before .before .before .before .args .n ≤ c .before .before .before .before .before .args .held + length (c .before .before .before .before .before .args .chunk .now) = search (found-in, needs) in
+    let s : 1 ≤ c .before .before .before .before .before .args .n = search (found-some, needs) in
     search needs
 
 command-at-requires : tie.Need-command-at-requires
@@ -36,15 +36,18 @@ same-length c = search needs
 same-length-2 : tie.Need-same-length-2
 same-length-2 c = search needs
 
+same-length-3 : tie.Need-same-length-3
+same-length-3 c = search needs
+
 returns : tie.Need-returns
 returns c =
-    let s = c .before .before .before .before .before .before .before .before .before .before .before .before .before .before .before .before .before .before in
-    let x = c .before .before .before .before .before .before .before .before .before .before .before .before .before .before .excess in
-    let y = c .before .before .before .before .before .before .before .before .before .before .before .before .before .skipped-with in
-    let a = c .before .before .before .before .before .before .before .answer-command in
-    let d = c .before .before .before .before .before .before .before .before .before .before .command-at in
-    found-step (s .args .bytes .now) (s .args .chunk .now) (s .args .held) (search needs) (search needs) (s .args .k) (s .args .n) (s .args .good) (search needs)
-    (s .args .w) (s .args .room .now) (s .args .page .now) (d .result) (search (d, needs)) (a .result) (a .last .1 .1 .0) (a .last .1 .1 .1 .0) (search (a, needs)) (x .result) (search (x, needs)) (y .result) (search (y, needs)) (c .keep-after .result) (search needs) (c .keep-after .last .0) (search needs)
+    let s = c .before .before .before .before .before .before .before .before .before .before .before .before .before .before .before .before .before .before .before in
+    let x = c .before .before .before .before .before .before .before .before .before .before .before .before .before .before .before .excess in
+    let y = c .before .before .before .before .before .before .before .before .before .before .before .before .before .before .skipped-with in
+    let a = c .before .before .before .before .before .before .before .before .before .answer-command in
+    let d = c .before .before .before .before .before .before .before .before .before .before .before .before .command-at in
+    found-step (s .before .args .bytes .now) (s .before .args .chunk .now) (s .before .args .held) (search needs) (search needs) (s .before .args .k) (s .before .args .n) (s .before .args .good) (search needs)
+    (s .before .args .w) (s .before .args .room .now) (s .before .args .page .now) (d .result) (search (d, needs)) (a .result) (a .last .1 .1 .0) (a .last .1 .1 .1 .0) (search (a, needs)) (x .result) (search (x, needs)) (y .result) (search (y, needs)) (c .before .before .keep-after .result) (search needs) (c .before .before .keep-after .last .0) (search needs)
 
 pub step-found-spec : {M : Type 1} → statement M
 step-found-spec =
@@ -58,4 +61,5 @@ step-found-spec =
     keep-after-requires
     same-length
     same-length-2
+    same-length-3
     returns)

@@ -10,11 +10,14 @@ add-to c = search needs
 keep-part-requires : tie.Need-keep-part-requires
 keep-part-requires c κs = (search needs, search (starved-in, needs), search needs, search (starved-few, needs), search needs)
 
-sub-t10 : tie.Need-sub-t10
-sub-t10 c = search (starved-in, needs)
+sub-t11 : tie.Need-sub-t11
+sub-t11 c = search (starved-in, needs)
+
+same-length : tie.Need-same-length
+same-length c = search needs
 
 returns : tie.Need-returns
 returns c = (search (starved-answer, needs), search (starved-kept, needs))
 
 pub step-starved-spec : {M : Type 1} → statement M
-step-starved-spec = tie.close (tie.spec add-to keep-part-requires sub-t10 returns)
+step-starved-spec = tie.close (tie.spec add-to keep-part-requires sub-t11 same-length returns)

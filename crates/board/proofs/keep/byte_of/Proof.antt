@@ -4,11 +4,11 @@ use borrow.Author.Needs.{needs}
 use Rattle.board.proofs.keep.byte_of.Statement.{statement}
 use Rattle.board.proofs.keep.byte_of.Tie as tie
 
-element-copy-out-result : tie.Need-element-copy-out-result
-element-copy-out-result c = search needs
-
 shared-slice-read-result : tie.Need-shared-slice-read-result
 shared-slice-read-result c = search needs
+
+shared-slice-read-result-2 : tie.Need-shared-slice-read-result-2
+shared-slice-read-result-2 c = search needs
 
 returns : tie.Need-returns
 returns c = search (held-left, needs)
@@ -18,4 +18,4 @@ returns-2 c = search (held-right, needs)
 
 pub byte-of-spec : {M : Type 1} → statement M
 byte-of-spec =
-    tie.close (tie.spec element-copy-out-result shared-slice-read-result returns returns-2)
+    tie.close (tie.spec shared-slice-read-result shared-slice-read-result-2 returns returns-2)

@@ -4,11 +4,11 @@ use native.Mathlib.Omega.{arith}
 use Prim.Native.Nat.{ℕ, _+_, _-_, _<_, _≤_}
 use mathlib.Core.Path.{_≡_, _∙_, sym, refl}
 use mathlib.Core.List.{List, _++_, append-assoc, append-nil}
-use lib.ListN.{length, take, drop, getD, replicate, length-drop, length-append, take-append-drop}
+use lib.ListN.{length, take, drop, getD, replicate, length-drop, length-append, length-replicate, take-append-drop}
 use lib.Seq.{length-take-le, drop-length}
 use denote.Ref.{now}
 use borrow.Author.Needs.{needs}
-use Rattle.board.proofs.Kept.{clear-suc}
+use Rattle.board.proofs.Kept.{clear-suc, clear-length}
 use Rattle.board.proofs.keep.clear_from.Statement.{statement}
 use Rattle.board.proofs.keep.clear_from.Tie as tie
 
@@ -21,8 +21,13 @@ abbrev μ-loop : tie.MeasureT-loop
 loop-holds : tie.Need-loop-holds Inv-loop μ-loop
 loop-holds c = (omega arith, omega arith, c .pre .1, clear-none (now (c .args .bytes)) (c .args .n))
 
-element-write-bytes : tie.Need-element-write-bytes Inv-loop μ-loop
-element-write-bytes c = search needs
+slice-write-bytes : tie.Need-slice-write-bytes Inv-loop μ-loop
+slice-write-bytes c =
+    let a = c .before .before .args in
+    let l = c .before .loop in
+    let i = l .inv in
+    let h = clear-length (now (a .bytes)) _ (a .n) (l .j) (i .0) (i .1) (i .2) (i .3) in
+    search (h, needs)
 
 add-j : tie.Need-add-j Inv-loop μ-loop
 add-j c = search needs
@@ -37,6 +42,13 @@ loop-again c =
     let i = l .inv in
     (omega arith, omega arith, i .2, rw (i .3) (clear-suc (now (a .bytes)) (a .n) (l .j) (i .0) (omega arith)))
 
+same-length : tie.Need-same-length Inv-loop μ-loop
+same-length c =
+    let a = c .before .before .args in
+    let l = c .before .loop in
+    let i = l .inv in
+    rw (i .3 ∙ clear-all (now (a .bytes)) (a .n) (l .j) (i .2) (omega arith)) (rw (length-append, length-replicate, length-take-le (a .n) (now (a .bytes)) (omega arith)) (omega arith))
+
 returns : tie.Need-returns Inv-loop μ-loop
 returns c =
     let a = c .before .before .args in
@@ -47,4 +59,4 @@ returns c =
 pub clear-from-spec : {M : Type 1} → statement M
 clear-from-spec =
     tie.close
-    (tie.spec Inv-loop μ-loop loop-holds element-write-bytes add-j loop-less loop-again returns)
+    (tie.spec Inv-loop μ-loop loop-holds slice-write-bytes add-j loop-less loop-again same-length returns)

@@ -7,7 +7,7 @@ use lib.ListN.{length, take, drop, getD, replicate, length-drop, length-append, 
 use lib.Seq.{length-take-le, take-all}
 use denote.Ref.{now}
 use borrow.Author.Needs.{needs}
-use Rattle.board.proofs.Kept.{window-length, mix-length, mix-same}
+use Rattle.board.proofs.Kept.{window-length, mix-length, mix-long, mix-same}
 use Rattle.board.proofs.Kept.{fill-suc, part-byte}
 use Rattle.board.proofs.keep.shift.Statement.{statement}
 use Rattle.board.proofs.keep.shift.Tie as tie
@@ -26,15 +26,22 @@ add-byte-of c = search needs
 
 byte-of-requires : tie.Need-byte-of-requires Inv-loop μ-loop
 byte-of-requires c κs =
-    let a = c .before .before .before .before .args in
+    let a = c .before .before .before .before .before .args in
     let l = c .before .before .loop in
     let p = take (a .n) (drop (a .from) (take (a .held) (now (a .bytes)) ++ now (a .chunk))) in
     let w = window-length (now (a .bytes)) (now (a .chunk)) (a .held) (omega arith) (l .inv .1) in
     let m : length p ≡ a .n = length-take-le (a .n) (drop (a .from) (take (a .held) (now (a .bytes)) ++ now (a .chunk))) (rw (length-drop, w) (omega arith)) in
     (omega arith, omega arith, rw (l .inv .2) (mix-length (now (a .bytes)) (now (a .chunk)) (a .held) (omega arith) (l .inv .1) p (l .i) (omega arith) (omega arith)))
 
-element-write-bytes : tie.Need-element-write-bytes Inv-loop μ-loop
-element-write-bytes c = search needs
+slice-write-bytes : tie.Need-slice-write-bytes Inv-loop μ-loop
+slice-write-bytes c =
+    let a = c .before .before .before .before .before .before .args in
+    let l = c .before .before .before .loop in
+    let p = take (a .n) (drop (a .from) (take (a .held) (now (a .bytes)) ++ now (a .chunk))) in
+    let w = window-length (now (a .bytes)) (now (a .chunk)) (a .held) (omega arith) (l .inv .1) in
+    let m : length p ≡ a .n = length-take-le (a .n) (drop (a .from) (take (a .held) (now (a .bytes)) ++ now (a .chunk))) (rw (length-drop, w) (omega arith)) in
+    let h = mix-long (now (a .bytes)) (now (a .chunk)) (a .held) (omega arith) (l .inv .1) p (l .i) (omega arith) (omega arith) _ (l .inv .2) in
+    search (h, needs)
 
 add-i : tie.Need-add-i Inv-loop μ-loop
 add-i c = search needs
@@ -44,7 +51,7 @@ loop-less c = search needs
 
 loop-again : tie.Need-loop-again Inv-loop μ-loop
 loop-again c =
-    let a = c .before .before .before .before .before .args in
+    let a = c .before .before .before .before .before .before .args in
     let l = c .before .before .before .loop in
     let p = take (a .n) (drop (a .from) (take (a .held) (now (a .bytes)) ++ now (a .chunk))) in
     let w = window-length (now (a .bytes)) (now (a .chunk)) (a .held) (omega arith) (l .inv .1) in
@@ -53,9 +60,18 @@ loop-again c =
     let e = part-byte (take (a .held) (now (a .bytes)) ++ now (a .chunk)) (a .from) (a .n) (l .i) (c .byte-of .result) (omega arith) ((rw (l .inv .2) at (c .byte-of .ensures)) ∙ s) in
     (omega arith, l .inv .1, rw (l .inv .2) (fill-suc p (now (a .bytes)) (l .i) (c .byte-of .result) (omega arith) (omega arith) e))
 
+same-length : tie.Need-same-length Inv-loop μ-loop
+same-length c =
+    let a = c .before .before .before .before .args in
+    let l = c .before .loop in
+    let p = take (a .n) (drop (a .from) (take (a .held) (now (a .bytes)) ++ now (a .chunk))) in
+    let w = window-length (now (a .bytes)) (now (a .chunk)) (a .held) (omega arith) (l .inv .1) in
+    let m : length p ≡ a .n = length-take-le (a .n) (drop (a .from) (take (a .held) (now (a .bytes)) ++ now (a .chunk))) (rw (length-drop, w) (omega arith)) in
+    rw (l .inv .2) (mix-length (now (a .bytes)) (now (a .chunk)) (a .held) (omega arith) (l .inv .1) p (l .i) (omega arith) (omega arith) ∙ sym (l .inv .1))
+
 returns : tie.Need-returns Inv-loop μ-loop
 returns c =
-    let a = c .before .before .before .args in
+    let a = c .before .before .before .before .args in
     let l = c .before .loop in
     let p = take (a .n) (drop (a .from) (take (a .held) (now (a .bytes)) ++ now (a .chunk))) in
     let w = window-length (now (a .bytes)) (now (a .chunk)) (a .held) (omega arith) (l .inv .1) in
@@ -72,8 +88,9 @@ shift-spec =
     loop-holds
     add-byte-of
     byte-of-requires
-    element-write-bytes
+    slice-write-bytes
     add-i
     loop-less
     loop-again
+    same-length
     returns)
