@@ -207,6 +207,13 @@ record Passed (port : ℕ) (b : Board) (room page : List ℕ) : Type 0 where
   large-room : replyRoom ≤ length room
   passing-page : pageNumber page ≡ 0
 
+pub passed-parts : (port first second : ℕ) (w : Settings) (room page : List ℕ) → feedNumber port first second w room page ≡ 0 → SoundParts first second w
+unfolding feedNumber
+passed-parts port first second w room page e =
+    let t : (ltb 1 port ≡ false) × _ = passes (ltb 1 port) 15 _ e in
+    let u : (unsound first second w ≡ false) × _ = passes (unsound first second w) 16 _ (t .1) in
+    parts first second w (u .0)
+
 passed : (port : ℕ) (b : Board) (room page : List ℕ) → feedNumber port (b .first .held) (b .second .held) (b .settings) room page ≡ 0 → Passed port b room page
 unfolding feedNumber
 passed port b room page e =

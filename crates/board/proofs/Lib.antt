@@ -1,6 +1,7 @@
 pub mod Feedings
 pub mod Follows
 pub mod Handles
+pub mod InPlace
 pub mod Kept
 pub mod Places
 pub mod Reckons

@@ -17,9 +17,9 @@ use Rattle.page.specs.Sound.{sound, pageNumber, savedPage}
 use Rattle.command.specs.Effects.{workingValue}
 use Rattle.command.specs.Handle.{replyRoom}
 use Rattle.board.specs.declared.board.Board.{Board}
-use Rattle.board.specs.Port.{heldBytes, portHolding, portOf}
+use Rattle.board.specs.Port.{portRoom, heldBytes, portHolding, portOf, withPort}
 use Rattle.board.specs.Start.{factorySettings, freshBoard, startOf}
-use Rattle.board.specs.Feed.{Feeding, unsound, refusedFeeding, feedOf}
+use Rattle.board.specs.Feed.{Feeding, Stepping, unsound, refusedFeeding, feedOf, placeOf}
 use Rattle.board.specs.Runs.{Call, callsFrom}
 
 -- "A port holds over 260, or a working value is not allowed": otherwise a board is sound.
@@ -124,3 +124,26 @@ pub record StaySound (b : Board) (page : List ℕ) (cs : List Call) : Type 0 whe
 
 abbrev pub RunsStaySound : Type 0
 RunsStaySound = (b : Board) (page : List ℕ) (cs : List Call) → isSound b ≡ true → pageNumber page ≡ 0 → StaySound b page cs
+
+-- ---- a feed in place
+
+-- What a caller does who keeps the board: it puts the held count and the settings back; the array was written in place.
+abbrev pub putBack : ℕ → Board → Stepping → Feeding
+putBack port b t =
+    record {
+      answer = record {
+        number = t .step .number;
+        taken = t .step .taken;
+        skipped = t .step .skipped;
+        saved = t .step .saved;
+        board = withPort port b (record { bytes = t .bytes; held = t .step .held }) (t .step .settings);
+      };
+      room = t .room;
+      page = t .page;
+    }
+
+-- Then a feed in place is a feed of the board, refused or not.
+abbrev pub InPlaceIsFeed : Type 0
+InPlaceIsFeed =
+    (port : ℕ) (b : Board) (chunk room page : List ℕ) → length (portOf port b .bytes) ≡ portRoom
+    → putBack port b (placeOf port (portOf port b .bytes) (b .first .held) (b .second .held) (b .settings) chunk room page) ≡ feedOf port b chunk room page

@@ -9,7 +9,7 @@ ghost use Rattle.stream.specs.Seek.{seek, resume, skippedBy};
 ghost use Rattle.message.specs.Front.{front};
 ghost use Rattle.command.specs.Command.{commandOf};
 ghost use Rattle.board.specs.Port.{heldBytes, padded};
-ghost use Rattle.board.specs.Feed.{feedNumber, leftOf, stepOf, inPlace, feedOn, feedOf};
+ghost use Rattle.board.specs.Feed.{feedNumber, leftOf, stepOf, inPlace, feedOn, feedOf, heldOf, placeNumber, placeOf};
 use crate::board::Board;
 use crate::board::Fed;
 use crate::keep::keep_part;
@@ -81,14 +81,7 @@ fn skipped_with(k: usize, good: bool) -> usize
 }
 
 // Keeps what a found message leaves of the bytes held and taken, and says how many they are.
-fn keep_after(
-    bytes: &mut [u8],
-    held: usize,
-    chunk: &[u8],
-    k: usize,
-    n: usize,
-    good: bool,
-) -> usize
+fn keep_after(bytes: &mut [u8], held: usize, chunk: &[u8], k: usize, n: usize, good: bool) -> usize
     requires { ⌜ (held ≤ 260) × (length (now bytes) ≡ 260) ⌝ }
     requires { ⌜ seek front (take held (now bytes) ++ now chunk) ≡ Found k n good ⌝ }
     ensures { λ r. ⌜ r ≡ length (leftOf k n good (take held (now (bytes .entry))) (now (chunk .entry))) ⌝ }
@@ -190,6 +183,62 @@ fn step_port(
     ensures { λ r. ⌜ record { step = r; bytes = now (bytes .exit); room = now (room .exit); page = now (page .exit) } ≡ inPlace (stepOf (take held (now (bytes .entry))) w (now (chunk .entry)) (now (room .entry)) (now (page .entry))) ⌝ }
 {
     step(bytes, held, chunk, w, room, page)
+}
+
+// The number of the first test that refuses a feed in place.
+fn place_number(
+    port: u8,
+    bytes: &[u8],
+    first: usize,
+    second: usize,
+    w: Settings,
+    room: &[u8],
+    page: &[u8],
+) -> u8
+    ensures { λ r. ⌜ r ≡ placeNumber port (now (bytes .entry)) first second w (now (room .entry)) (now (page .entry)) ⌝ }
+{
+    if 1 < port {
+        return 16;
+    }
+    if bytes.len() != Port::ROOM {
+        return 17;
+    }
+    feed_number(port, first, second, w, room, page)
+}
+
+// A feed for a caller that keeps the board: `bytes` is the array of the named port, which is written in place, `first` and
+// `second` are the held counts of both ports, and the answer has the named port's held count and the settings afterwards.
+pub fn feed_in_place(
+    port: u8,
+    bytes: &mut [u8],
+    first: usize,
+    second: usize,
+    w: Settings,
+    chunk: &[u8],
+    room: &mut [u8],
+    page: &mut [u8],
+) -> Stepped
+    ensures { λ r. ⌜ record { step = r; bytes = now (bytes .exit); room = now (room .exit); page = now (page .exit) } ≡ placeOf port (now (bytes .entry)) first second w (now (chunk .entry)) (now (room .entry)) (now (page .entry)) ⌝ }
+{
+    let number = place_number(port, bytes, first, second, w, room, page);
+    let held = held_of(port, first, second);
+    if number != 0 {
+        return Stepped {
+            number,
+            taken: 0,
+            skipped: 0,
+            saved: false,
+            held,
+            settings: w,
+        };
+    }
+    step(bytes, held, chunk, w, room, page)
+}
+
+fn held_of(port: u8, first: usize, second: usize) -> usize
+    ensures { λ r. ⌜ r ≡ heldOf port first second ⌝ }
+{
+    if port == 0 { first } else { second }
 }
 
 // A feed of a sound board's first port, in its place: the second port is not touched.

@@ -9,6 +9,8 @@ mod starting;
 pub use board::Board;
 pub use board::Fed;
 pub use board::Started;
+pub use feeding::Stepped;
 pub use feeding::feed;
+pub use feeding::feed_in_place;
 pub use port::Port;
 pub use starting::start;

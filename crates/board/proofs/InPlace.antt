@@ -1,0 +1,110 @@
+-- A feed in place: its tests, and that it is the feed of the board.
+use mathlib.Core.Bool.{Bool, true, false, not}
+use mathlib.Core.List.{List}
+use mathlib.Core.Path.{_≡_, refl, sym, ap, _∙_}
+use Prim.Native.Nat.{ℕ, zero, suc, _≤_, _<_}
+use native.Mathlib.Omega.{arith}
+use lib.Dec.{eqb, ltb}
+use lib.ListN.{length, take}
+use borrow.Author.Tests.{lt-ltb, le-ltb, eq-eqb, ne-eqb, eqb-true}
+use Rattle.command.specs.declared.settings.Settings.{Settings}
+use Rattle.board.specs.declared.board.Board.{Board}
+use Rattle.board.specs.declared.port.Port.{Port}
+use Rattle.board.specs.declared.feeding.Stepped.{Stepped}
+use Rattle.board.specs.Port.{portRoom, heldBytes, portHolding, portOf}
+use Rattle.board.specs.Feed.{PortStep, refuse, feedNumber, refusedFeeding, refusedStepping, stepOf, feedOn, acceptOn, feedOf, inPlace, heldOf, placeNumber, placeOn, placeOf}
+use Rattle.board.specs.AnyBoard.{putBack, InPlaceIsFeed}
+use Rattle.board.proofs.Places.{passes}
+use Rattle.board.proofs.Feedings.{SoundParts, passed-parts}
+
+pub held-second : (port first second : ℕ) → (port ≡ 0 → ⊥) → second ≡ heldOf port first second
+held-second zero first second h = absurd (h refl)
+held-second (suc p) first second h = refl
+
+module _ (port : ℕ) (bytes : List ℕ) (first second : ℕ) (w : Settings) (room page : List ℕ) where
+  pub place-16 : 1 < port → 16 ≡ placeNumber port bytes first second w room page
+  unfolding placeNumber
+  place-16 h = rw (lt-ltb 1 port h)
+
+  pub place-17 : port ≤ 1 → (length bytes ≡ 260 → ⊥) → 17 ≡ placeNumber port bytes first second w room page
+  unfolding placeNumber
+  place-17 p h = rw (le-ltb 1 port p, ne-eqb (length bytes) 260 h)
+
+  pub place-rest : port ≤ 1 → length bytes ≡ 260 → (n : ℕ) → n ≡ feedNumber port first second w room page → n ≡ placeNumber port bytes first second w room page
+  unfolding placeNumber
+  place-rest p h n e = rw (le-ltb 1 port p, eq-eqb (length bytes) 260 h) e
+
+  module _ (n : ℕ) (ns : n ≡ placeNumber port bytes first second w room page) (h : ℕ) (hs : h ≡ heldOf port first second) where
+    pub place-refused : (chunk : List ℕ) → (n ≡ 0 → ⊥)
+        → record { step = record { number = n; taken = 0; skipped = 0; saved = false; held = h; settings = w }; bytes = bytes; room = room; page = page }
+        ≡ placeOf port bytes first second w chunk room page
+    unfolding placeOf
+    place-refused chunk z = rw (hs, ← ns) (go n z)
+      where
+        go : (n : ℕ) → (n ≡ 0 → ⊥) → refusedStepping n (heldOf port first second) w bytes room page ≡ placeOn n port bytes (heldOf port first second) w chunk room page
+        go zero z = absurd (z refl)
+        go (suc n) z = refl
+
+    passed-all : n ≡ 0 → (length bytes ≡ 260) × (feedNumber port first second w room page ≡ 0)
+    unfolding placeNumber
+    passed-all z =
+        let t : (ltb 1 port ≡ false) × _ = passes (ltb 1 port) 15 _ (sym ns ∙ z) in
+        let u : (not (eqb (length bytes) portRoom) ≡ false) × _ = passes (not (eqb (length bytes) portRoom)) 16 _ (t .1) in
+        (is-long (eqb (length bytes) portRoom) refl (u .0), u .1)
+      where
+        is-long : (b : Bool) → eqb (length bytes) portRoom ≡ b → not b ≡ false → length bytes ≡ 260
+        is-long true e f = eqb-true (length bytes) portRoom e
+        is-long false e f = let z : _≡_ {A = ℕ} 0 1 = cc in absurd (omega arith)
+
+    pub place-long : n ≡ 0 → length bytes ≡ 260
+    place-long z = passed-all z .0
+
+    pub place-few : n ≡ 0 → h ≤ 260
+    place-few z = rw hs (go port)
+      where
+        p : SoundParts first second w
+        p = passed-parts port first second w room page (passed-all z .1)
+
+        go : (port : ℕ) → heldOf port first second ≤ 260
+        go zero = p .first-few
+        go (suc q) = p .second-few
+
+    pub place-done : (chunk : List ℕ) → n ≡ 0 → (r : Stepped) (bytesAfter roomAfter pageAfter : List ℕ)
+        → record { step = r; bytes = bytesAfter; room = roomAfter; page = pageAfter } ≡ inPlace (stepOf (take h bytes) w chunk room page)
+        → record { step = r; bytes = bytesAfter; room = roomAfter; page = pageAfter } ≡ placeOf port bytes first second w chunk room page
+    unfolding placeOf
+    place-done chunk z r bytesAfter roomAfter pageAfter e = e ∙ rw (← ns, z, hs)
+
+-- ---- the feed of the board
+
+same-number : (port : ℕ) (bytes : List ℕ) (first second : ℕ) (w : Settings) (room page : List ℕ) → length bytes ≡ portRoom
+    → placeNumber port bytes first second w room page ≡ feedNumber port first second w room page
+unfolding placeNumber feedNumber
+same-number port bytes first second w room page l = rw (eq-eqb (length bytes) portRoom l) (go (ltb 1 port) _)
+  where
+    go : (a : Bool) (next : ℕ) → refuse a 16 (refuse a 16 next) ≡ refuse a 16 next
+    go true next = refl
+    go false next = refl
+
+held-is : (port : ℕ) (b : Board) → heldOf port (b .first .held) (b .second .held) ≡ portOf port b .held
+held-is zero b = refl
+held-is (suc p) b = refl
+
+put-refused : (port : ℕ) (b : Board) (n : ℕ) (room page : List ℕ)
+    → putBack port b (refusedStepping n (portOf port b .held) (b .settings) (portOf port b .bytes) room page) ≡ refusedFeeding n b room page
+put-refused zero b n room page = refl
+put-refused (suc p) b n room page = refl
+
+put-done : (port : ℕ) (b : Board) (s : PortStep) → putBack port b (inPlace s) ≡ feedOn s port b
+unfolding portHolding
+put-done port b s = refl
+
+pub in-place-is-feed : InPlaceIsFeed
+unfolding placeOf feedOf
+in-place-is-feed port b chunk room page l =
+    rw (same-number port (portOf port b .bytes) (b .first .held) (b .second .held) (b .settings) room page l, held-is port b)
+    (go (feedNumber port (b .first .held) (b .second .held) (b .settings) room page))
+  where
+    go : (n : ℕ) → putBack port b (placeOn n port (portOf port b .bytes) (portOf port b .held) (b .settings) chunk room page) ≡ acceptOn n port b chunk room page
+    go zero = put-done port b (stepOf (heldBytes (portOf port b)) (b .settings) chunk room page)
+    go (suc n) = put-refused port b (suc n) room page
