@@ -2,6 +2,7 @@
 use crate::port::Port;
 use command::Settings;
 
+#[repr(C)]
 pub struct Board {
     // port 0
     pub first: Port,
@@ -12,6 +13,7 @@ pub struct Board {
 }
 
 // What starting answers.
+#[repr(C)]
 pub struct Started {
     // document 01's number
     pub number: u8,
@@ -19,6 +21,7 @@ pub struct Started {
 }
 
 // What a feed answers.
+#[repr(C)]
 pub struct Fed {
     // document 01's number
     pub number: u8,

@@ -3,6 +3,7 @@ ghost use mathlib.Core.Path.{_≡_};
 ghost use Rattle.board.specs.Port.{freshPort};
 
 // The unread bytes of an undecided message, or bytes not yet looked at: the first `held` of the array.
+#[repr(C)]
 pub struct Port {
     pub bytes: [u8; 260],
     pub held: usize,

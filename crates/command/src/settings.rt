@@ -7,6 +7,7 @@ ghost use Rattle.command.specs.Effects.{workingValue, withWorking, Fits}
 ghost use Rattle.command.specs.Handle.{settingsAllowed};
 use page::Setting;
 
+#[repr(C)]
 pub struct Settings {
     pub baud: u32,
     // the accelerometer's range

@@ -1,13 +1,13 @@
--- Text put into a buffer: by stores, by a copy, one behind the other, and as a whole writing.
+-- Text put into a buffer: by stores, by a copy, and one behind the other.
 use Prim.Native.Nat.{ℕ, suc, _+_, _-_, _/_, _%_, _≤_, _<_}
 use native.Mathlib.Omega.{arith}
 use mathlib.Core.Path.{_≡_, refl, ap, _∙_, sym}
 use mathlib.Core.Bool.{Bool, true, false}
 use mathlib.Core.List.{List, _++_, append-assoc}
-use lib.ListN.{length, take, drop, set, length-append, take-append-drop}
+use lib.ListN.{length, take, drop, set, length-append}
 use lib.Seq.{sets-eq, paste, take-length, take-at, drop-at, drop-drop, length-take-le}
 use borrow.Author.Tests.{lt-ltb, le-ltb}
-use Rattle.message.specs.Write.{Writing, refusedWriting, writingOf}
+use Rattle.message.specs.Write.{Writing, writingOf}
 use Rattle.listing.specs.Put.{Put}
 use Rattle.listing.specs.Text.{hexDigit, hexOf, blank, newline, pageOf, decimalOf, lineOf, countsOf, takenWord, skippedWord, heldWord}
 
@@ -41,18 +41,6 @@ put-then {at} {mid} {end} {s} {t} {a} {b} {c} p q =
       bytes = q .bytes ∙ ap (λ (l : List ℕ). l ++ t) (p .bytes) ∙ append-assoc (take at a) s t;
       rest = q .rest ∙ rw (q .ends) (sym (drop-drop (length t) mid b) ∙ ap (drop (length t)) (p .rest) ∙ drop-drop (length t) mid a);
     }
-
--- ---- a text as a whole writing
-
-pub text-refused : (text room : List ℕ) → length room < length text → refusedWriting 18 room ≡ writingOf text room
-text-refused text room h = rw (lt-ltb (length room) (length text) h)
-
-pub text-written : (text room after : List ℕ) (n : ℕ) → length text ≤ length room → Put 0 text room after n
-    → record { answer = record { number = 0; length = length text }; room = after } ≡ writingOf text room
-text-written text room after n h p =
-    let e : n ≡ length text = omega (arith, p .ends) in
-    let f : after ≡ text ++ drop (length text) room = sym (take-append-drop n after) ∙ rw (p .bytes, p .rest, e) in
-    rw (le-ltb (length room) (length text) h, ← f)
 
 -- ---- a hex digit
 

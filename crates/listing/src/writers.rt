@@ -10,6 +10,7 @@ use crate::put::put_code;
 use crate::put::put_decimal;
 use crate::put::put_text;
 use message::Written;
+use message::write_bytes;
 
 // The longest line of a message: two codes of two digits, an error of three, `saved`, and what stands between them.
 pub const LONGEST_LINE: usize = 16;
@@ -17,28 +18,10 @@ pub const LONGEST_LINE: usize = 16;
 // The longest line of counts: three numbers of 20 digits, their names, and what stands between them.
 pub const LONGEST_COUNTS: usize = 82;
 
-// Writes a text to the front of `room`, where it has room for all of it.
-fn write_text(text: &[u8], room: &mut [u8]) -> Written
-    ensures { λ r. ⌜ record { answer = r; room = now (room .exit) } ≡ writingOf (now (text .entry)) (now (room .entry)) ⌝ }
-{
-    let n = text.len();
-    if room.len() < n {
-        return Written {
-            number: 18,
-            length: 0,
-        };
-    }
-    put_text(text, 0, room);
-    Written {
-        number: 0,
-        length: n,
-    }
-}
-
 pub fn write_heading(room: &mut [u8]) -> Written
     ensures { λ r. ⌜ record { answer = r; room = now (room .exit) } ≡ writingOf heading (now (room .entry)) ⌝ }
 {
-    write_text(b"type code error page\n", room)
+    write_bytes(b"type code error page\n", room)
 }
 
 // What a feed did to the page, and the line's end.
@@ -68,7 +51,7 @@ pub fn write_line(kind: u8, echo: u8, error: u8, saved: bool, room: &mut [u8]) -
 {
     let mut line = [0u8; LONGEST_LINE];
     let n = put_line(kind, echo, error, saved, &mut line);
-    write_text(&line[0..n], room)
+    write_bytes(&line[0..n], room)
 }
 
 // A count behind its name.
@@ -96,5 +79,5 @@ pub fn write_counts(taken: u64, skipped: u64, held: usize, room: &mut [u8]) -> W
 {
     let mut line = [0u8; LONGEST_COUNTS];
     let n = put_counts(taken, skipped, held as u64, &mut line);
-    write_text(&line[0..n], room)
+    write_bytes(&line[0..n], room)
 }

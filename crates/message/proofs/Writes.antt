@@ -1,18 +1,18 @@
 -- What the plain writer leaves in the room.
-use Prim.Native.Nat.{ℕ, suc, _+_, _-_, _≤_, _<_}
+use Prim.Native.Nat.{ℕ, zero, suc, _+_, _-_, _≤_, _<_}
 use native.Mathlib.Omega.{arith}
 use native.Mathlib.Numerals.{add-one}
 use mathlib.Core.Path.{_≡_, refl, ap, _∙_, sym}
 use mathlib.Core.List.{List, [], _∷_, _++_, append-assoc}
 use lib.Dec.{ltb}
-use lib.ListN.{length, take, drop, set, length-append, length-drop}
+use lib.ListN.{length, getD, take, drop, set, length-append, length-drop}
 use lib.Seq.{sets, sets-eq, paste, take-length, take-at, drop-append-add, drop-drop, drop-at}
 use borrow.Author.Tests.{lt-ltb, le-ltb}
 use Rattle.message.specs.declared.fletcher.Sums.{Sums}
 use Rattle.message.specs.declared.write.Written.{Written}
 use Rattle.message.specs.Fletcher.{noSums, sumsFrom, sums}
 use Rattle.message.specs.Message.{summedBytes, withSums, messageOf}
-use Rattle.message.specs.Write.{Writing, refusedWriting, doneWriting, plainWriting}
+use Rattle.message.specs.Write.{Writing, refusedWriting, doneWriting, writingOf, plainWriting}
 
 pub message-length : (kind : ℕ) (payload : List ℕ) → length (messageOf kind payload) ≡ length payload + 6
 unfolding messageOf
@@ -62,7 +62,31 @@ message-put room kind payload filled done h p q =
     six : (i : ℕ) → i + 4 + 2 ≡ i + 6
     six i = omega arith
 
--- ---- the writer's answers, with the room
+-- ---- bytes as they are: a refusal, a copy byte by byte, and the answer
+
+pub bytes-refused : (bytes room : List ℕ) → length room < length bytes → refusedWriting 18 room ≡ writingOf bytes room
+bytes-refused bytes room h = rw (lt-ltb (length room) (length bytes) h)
+
+module _ (bytes room : List ℕ) (fits : length bytes ≤ length room) where
+  pub copied-more : (i : ℕ) (done : List ℕ) → i < length bytes → done ≡ take i bytes ++ drop i room
+      → set done i (getD bytes i 0) ≡ take (i + 1) bytes ++ drop (i + 1) room
+  copied-more i done h e = rw (e, add-one) (step i bytes room h (omega arith))
+    where
+      step : (i : ℕ) (bytes room : List ℕ) → i < length bytes → i < length room
+          → set (take i bytes ++ drop i room) i (getD bytes i 0) ≡ take (suc i) bytes ++ drop (suc i) room
+      step i [] room h k = absurd (omega arith)
+      step i (x ∷ bytes) [] h k = absurd (omega arith)
+      step zero (x ∷ bytes) (y ∷ room) h k = refl
+      step (suc i) (x ∷ bytes) (y ∷ room) h k = ap (λ (l : List ℕ). x ∷ l) (step i bytes room (omega arith) (omega arith))
+
+  pub bytes-written : (i : ℕ) (done : List ℕ) → length bytes ≤ i → i ≤ length bytes → done ≡ take i bytes ++ drop i room
+      → record { answer = record { number = 0; length = length bytes }; room = done } ≡ writingOf bytes room
+  bytes-written i done h k e =
+      let l : i ≡ length bytes = omega arith in
+      let f : done ≡ bytes ++ drop (length bytes) room = e ∙ rw (l, take-length) in
+      rw (le-ltb (length room) (length bytes) fits, ← f)
+
+-- ---- the plain writer's answers, with the room
 
 pub refused-26 : (kind : ℕ) (payload room : List ℕ) → 255 < length payload → refusedWriting 26 room ≡ plainWriting kind payload room
 unfolding plainWriting

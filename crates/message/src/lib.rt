@@ -15,4 +15,5 @@ pub use window::front_over;
 pub use window::seek_held;
 pub use window::seek_over;
 pub use write::Written;
+pub use write::write_bytes;
 pub use write::write_message;

@@ -9,22 +9,25 @@ use lib.Seq.{sets, take-all}
 use Rattle.word.specs.Word.{number, wordBytes}
 use Rattle.message.specs.Write.{Writing, plainWriting}
 use Rattle.sample.specs.declared.axes.Axes.{Axes}
-use Rattle.sample.specs.Axes.{floatOf, keptOf, bitsOf, axesOf, axesBytes}
+use Rattle.sample.specs.Axes.{floatOf, keptOf, bitsOf, axesFrom, axesOf, axesBytes}
 use Rattle.sample.specs.Writer.{dataPayload, dataMessage, dataWriting}
 
 -- ---- the axes of twelve bytes
 
-pub axes-read : (b : List ℕ) → length b ≡ 12 → (x y z : ℕ) → x ≡ number (take 4 b) → y ≡ number (take 4 (take (length b - 4) (drop 4 b)))
-    → z ≡ number (take 4 (take (length b - 8) (drop 8 b))) → (fx fy fz : Float) → fx ≡ floatOf x → fy ≡ floatOf y → fz ≡ floatOf z
+pub axes-from : (x y z : ℕ) (fx fy fz : Float) → fx ≡ floatOf x → fy ≡ floatOf y → fz ≡ floatOf z
     → (kx ky kz : ℕ) → kx ≡ keptOf x → ky ≡ keptOf y → kz ≡ keptOf z
-    → record { x = fx; y = fy; z = fz; «x_nan» = kx; «y_nan» = ky; «z_nan» = kz } ≡ axesOf b
+    → record { x = fx; y = fy; z = fz; «x_nan» = kx; «y_nan» = ky; «z_nan» = kz } ≡ axesFrom x y z
+axes-from x y z fx fy fz efx efy efz kx ky kz ekx eky ekz = rw (← efx, ← efy, ← efz, ← ekx, ← eky, ← ekz)
+
+pub axes-read : (b : List ℕ) → length b ≡ 12 → (x y z : ℕ) → x ≡ number (take 4 b) → y ≡ number (take 4 (take (length b - 4) (drop 4 b)))
+    → z ≡ number (take 4 (take (length b - 8) (drop 8 b))) → (a : Axes) → a ≡ axesFrom x y z → a ≡ axesOf b
 unfolding axesOf
-axes-read b e x y z ex ey ez fx fy fz efx efy efz kx ky kz ekx eky ekz =
+axes-read b e x y z ex ey ez a h =
     let ay : take (length b - 4) (drop 4 b) ≡ drop 4 b = take-all (length b - 4) (drop 4 b) (rw length-drop (omega arith)) in
     let az : take (length b - 8) (drop 8 b) ≡ drop 8 b = take-all (length b - 8) (drop 8 b) (rw length-drop (omega arith)) in
     let by : y ≡ number (take 4 (drop 4 b)) = ey ∙ ap (λ (l : List ℕ). number (take 4 l)) ay in
     let bz : z ≡ number (take 4 (drop 8 b)) = ez ∙ ap (λ (l : List ℕ). number (take 4 l)) az in
-    rw (← ex, ← by, ← bz, ← efx, ← efy, ← efz, ← ekx, ← eky, ← ekz)
+    h ∙ rw (← ex, ← by, ← bz)
 
 -- ---- stores one after the other
 

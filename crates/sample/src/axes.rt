@@ -5,7 +5,7 @@ ghost use lib.Ieee.{binary32, nanBits};
 ghost use lib.ListN.{length};
 ghost use lib.Seq.{sets};
 ghost use Rattle.word.specs.Word.{wordBytes};
-ghost use Rattle.sample.specs.Axes.{floatOf, keptOf, bitsOf, axesOf, axesBytes};
+ghost use Rattle.sample.specs.Axes.{floatOf, keptOf, bitsOf, axesFrom, axesOf, axesBytes};
 use word::number_of;
 
 // Three IEEE 754 single floats. The kit's f32 has a single NaN, so the pattern of an axis that is a NaN stands beside it;
@@ -47,13 +47,27 @@ fn kept_of(bits: u32) -> u32
 
 // The pattern of a float and of what stands beside it. Beside a NaN a caller may have put what is no NaN's pattern: it stays
 // a NaN all the same.
-fn bits_of(x: f32, kept: u32) -> u32
+pub fn bits_of(x: f32, kept: u32) -> u32
     ensures { λ r. ⌜ r ≡ bitsOf x kept ⌝ }
 {
     if x != x {
         if is_nan(kept) { kept } else { 0x7fc0_0000 }
     } else {
         f32::to_bits(x)
+    }
+}
+
+// The axes of three patterns.
+pub fn axes_from_bits(x: u32, y: u32, z: u32) -> Axes
+    ensures { λ r. ⌜ r ≡ axesFrom x y z ⌝ }
+{
+    Axes {
+        x: float_of(x),
+        y: float_of(y),
+        z: float_of(z),
+        x_nan: kept_of(x),
+        y_nan: kept_of(y),
+        z_nan: kept_of(z),
     }
 }
 
@@ -65,14 +79,7 @@ pub(crate) fn axes_of(b: &[u8]) -> Axes
     let x = number_of(b);
     let y = number_of(&b[4..]);
     let z = number_of(&b[8..]);
-    Axes {
-        x: float_of(x),
-        y: float_of(y),
-        z: float_of(z),
-        x_nan: kept_of(x),
-        y_nan: kept_of(y),
-        z_nan: kept_of(z),
-    }
+    axes_from_bits(x, y, z)
 }
 
 // Writes a number as four bytes from `at`, the highest first.

@@ -5,6 +5,8 @@ mod reader;
 mod writer;
 
 pub use axes::Axes;
+pub use axes::axes_from_bits;
+pub use axes::bits_of;
 pub use reader::FieldRead;
 pub use reader::Sample;
 pub use reader::field_data;

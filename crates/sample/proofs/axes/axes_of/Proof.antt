@@ -31,23 +31,8 @@ part-number-of-end-2 c = search needs
 number-of-requires-3 : tie.Need-number-of-requires-3
 number-of-requires-3 c κs = search needs
 
-float-of-requires : tie.Need-float-of-requires
-float-of-requires c κs = search needs
-
-float-of-requires-2 : tie.Need-float-of-requires-2
-float-of-requires-2 c κs = search needs
-
-float-of-requires-3 : tie.Need-float-of-requires-3
-float-of-requires-3 c κs = search needs
-
-kept-of-requires : tie.Need-kept-of-requires
-kept-of-requires c κs = search needs
-
-kept-of-requires-2 : tie.Need-kept-of-requires-2
-kept-of-requires-2 c κs = search needs
-
-kept-of-requires-3 : tie.Need-kept-of-requires-3
-kept-of-requires-3 c κs = search needs
+axes-from-bits-requires : tie.Need-axes-from-bits-requires
+axes-from-bits-requires c κs = search needs
 
 returns : tie.Need-returns
 returns c = search (axes-read, needs)
@@ -65,10 +50,5 @@ axes-of-spec =
     part-number-of-start-2
     part-number-of-end-2
     number-of-requires-3
-    float-of-requires
-    float-of-requires-2
-    float-of-requires-3
-    kept-of-requires
-    kept-of-requires-2
-    kept-of-requires-3
+    axes-from-bits-requires
     returns)
