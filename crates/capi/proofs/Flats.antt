@@ -1,0 +1,66 @@
+-- The flat structs, made of the answers of the calls behind them; and their values come back.
+use Prim.Native.Nat.{ℕ}
+use mathlib.Core.Path.{_≡_, refl, ap, _∙_}
+use mathlib.Core.Bool.{Bool, true}
+use mathlib.Core.List.{List}
+use Rattle.page.specs.declared.setting.Stored.{Stored}
+use Rattle.page.specs.declared.setting.Stored.the-variants.{Absent, Value}
+use Rattle.page.specs.declared.setting.Values.{Values}
+use Rattle.page.specs.Sound.{PageWriting, pageWriting}
+use Rattle.client.specs.declared.reader.Reply.{Reply}
+use Rattle.sample.specs.declared.axes.Axes.{Axes}
+use Rattle.sample.specs.declared.reader.Sample.the-variants.{Acceleration, Rate, Unknown}
+use Rattle.sample.specs.declared.reader.FieldRead.{FieldRead}
+use Rattle.sample.specs.Axes.{bitsOf}
+use Rattle.capi.specs.declared.flat.FlatField.{FlatField}
+use Rattle.capi.specs.declared.flat.FlatValues.{FlatValues}
+use Rattle.capi.specs.Flat.{isThere, numberIn, storedFrom, flatReply, flatValues, valuesFrom, flatAxes, flatField}
+use Rattle.capi.specs.Theorems.{ValuesBack}
+
+-- ---- values that may be absent
+
+pub stored-there : (b : Bool) (x : ℕ) → b ≡ true → Value x ≡ storedFrom b x
+stored-there b x e = rw e
+
+pub reply-flat : (r s : Reply) → r ≡ s → (b : Bool) → b ≡ isThere (r .value) → (x : ℕ) → x ≡ numberIn (r .value)
+    → record { number = r .number; kind = r .kind; echo = r .echo; error = r .error; «has_value» = b; value = x } ≡ flatReply s
+reply-flat r s e b p x q = rw (p, q) (ap flatReply e)
+
+pub values-flat : (v w : Values) → v ≡ w → (b₁ b₂ b₃ : Bool) (x₁ x₂ x₃ : ℕ)
+    → b₁ ≡ isThere (v .baud) → x₁ ≡ numberIn (v .baud) → b₂ ≡ isThere (v .accelerometer) → x₂ ≡ numberIn (v .accelerometer)
+    → b₃ ≡ isThere (v .gyroscope) → x₃ ≡ numberIn (v .gyroscope)
+    → record { «has_baud» = b₁; baud = x₁; «has_accelerometer» = b₂; accelerometer = x₂; «has_gyroscope» = b₃; gyroscope = x₃ } ≡ flatValues w
+values-flat v w e b₁ b₂ b₃ x₁ x₂ x₃ p₁ q₁ p₂ q₂ p₃ q₃ = rw (p₁, q₁, p₂, q₂, p₃, q₃) (ap flatValues e)
+
+pub values-made : (f : FlatValues) (b a g : Stored) → b ≡ storedFrom (f .«has_baud») (f .baud)
+    → a ≡ storedFrom (f .«has_accelerometer») (f .accelerometer) → g ≡ storedFrom (f .«has_gyroscope») (f .gyroscope)
+    → record { baud = b; accelerometer = a; gyroscope = g } ≡ valuesFrom f
+values-made f b a g p q r = rw (p, q, r)
+
+pub page-made : (v : Values) (f : FlatValues) → v ≡ valuesFrom f → (page : List ℕ) (w : PageWriting) → w ≡ pageWriting v page
+    → w ≡ pageWriting (valuesFrom f) page
+page-made v f e page w h = h ∙ ap (λ (x : Values). pageWriting x page) e
+
+stored-back : (s : Stored) → storedFrom (isThere s) (numberIn s) ≡ s
+stored-back Absent = refl
+stored-back (Value x) = refl
+
+pub values-back : ValuesBack
+values-back v = rw (stored-back (v .baud), stored-back (v .accelerometer), stored-back (v .gyroscope))
+
+-- ---- fields
+
+pub axes-flat : (number code : ℕ) (a : Axes) (x y z : ℕ) → x ≡ bitsOf (a .x) (a .«x_nan») → y ≡ bitsOf (a .y) (a .«y_nan»)
+    → z ≡ bitsOf (a .z) (a .«z_nan») → record { number = number; code = code; place = 0; x = x; y = y; z = z } ≡ flatAxes number code a
+axes-flat number code a x y z p q r = rw (p, q, r)
+
+module _ (r s : FieldRead) (e : r ≡ s) where
+  pub acceleration-flat : {a : Axes} → r .field ≡ Acceleration a → (f : FlatField) → f ≡ flatAxes (r .number) 0x81 a → f ≡ flatField s
+  acceleration-flat h f p = p ∙ rw (← e, h)
+
+  pub rate-flat : {a : Axes} → r .field ≡ Rate a → (f : FlatField) → f ≡ flatAxes (r .number) 0x82 a → f ≡ flatField s
+  rate-flat h f p = p ∙ rw (← e, h)
+
+  pub unknown-flat : {code place : ℕ} → r .field ≡ Unknown code place
+      → record { number = r .number; code = code; place = place; x = 0; y = 0; z = 0 } ≡ flatField s
+  unknown-flat h = rw (← e, h)

@@ -1,0 +1,92 @@
+-- How the flat structs of the calls for C stand for the answers of the calls behind them.
+use Prim.Native.Nat.{ℕ, zero, suc}
+use mathlib.Core.Bool.{Bool, true, false}
+use mathlib.Core.List.{List}
+use Rattle.message.specs.Write.{Writing, refusedWriting, writingOf}
+use Rattle.page.specs.declared.setting.Stored.{Stored}
+use Rattle.page.specs.declared.setting.Stored.the-variants.{Absent, Value}
+use Rattle.page.specs.declared.setting.Values.{Values}
+use Rattle.client.specs.declared.reader.Reply.{Reply}
+use Rattle.sample.specs.declared.axes.Axes.{Axes}
+use Rattle.sample.specs.declared.reader.Sample.{Sample}
+use Rattle.sample.specs.declared.reader.Sample.the-variants.{Acceleration, Rate, Unknown}
+use Rattle.sample.specs.declared.reader.FieldRead.{FieldRead}
+use Rattle.sample.specs.Axes.{bitsOf}
+use Rattle.capi.specs.declared.flat.FlatReply.{FlatReply}
+use Rattle.capi.specs.declared.flat.FlatField.{FlatField}
+use Rattle.capi.specs.declared.flat.FlatValues.{FlatValues}
+
+-- ---- a value that may be absent: whether it is there, and the value or 0
+
+abbrev pub isThere : Stored → Bool
+isThere Absent = false
+isThere (Value x) = true
+
+abbrev pub numberIn : Stored → ℕ
+numberIn Absent = 0
+numberIn (Value x) = x
+
+-- Back: an absent one whatever number stands beside.
+abbrev pub storedFrom : Bool → ℕ → Stored
+storedFrom false x = Absent
+storedFrom true x = Value x
+
+-- ---- a reply, and the values of a page
+
+abbrev pub flatReply : Reply → FlatReply
+flatReply r =
+    record {
+      number = r .number;
+      kind = r .kind;
+      echo = r .echo;
+      error = r .error;
+      «has_value» = isThere (r .value);
+      value = numberIn (r .value);
+    }
+
+abbrev pub flatValues : Values → FlatValues
+flatValues v =
+    record {
+      «has_baud» = isThere (v .baud);
+      baud = numberIn (v .baud);
+      «has_accelerometer» = isThere (v .accelerometer);
+      accelerometer = numberIn (v .accelerometer);
+      «has_gyroscope» = isThere (v .gyroscope);
+      gyroscope = numberIn (v .gyroscope);
+    }
+
+abbrev pub valuesFrom : FlatValues → Values
+valuesFrom f =
+    record {
+      baud = storedFrom (f .«has_baud») (f .baud);
+      accelerometer = storedFrom (f .«has_accelerometer») (f .accelerometer);
+      gyroscope = storedFrom (f .«has_gyroscope») (f .gyroscope);
+    }
+
+-- ---- a field of a data message
+
+-- The patterns of three axes, under the field's code.
+abbrev pub flatAxes : ℕ → ℕ → Axes → FlatField
+flatAxes number code a =
+    record {
+      number = number;
+      code = code;
+      place = 0;
+      x = bitsOf (a .x) (a .«x_nan»);
+      y = bitsOf (a .y) (a .«y_nan»);
+      z = bitsOf (a .z) (a .«z_nan»);
+    }
+
+-- A field by its code. What is refused is read as an unknown field of zeros, so all but the number is 0 then.
+abbrev pub flatOn : ℕ → Sample → FlatField
+flatOn number (Acceleration a) = flatAxes number 0x81 a
+flatOn number (Rate a) = flatAxes number 0x82 a
+flatOn number (Unknown code place) = record { number = number; code = code; place = place; x = 0; y = 0; z = 0 }
+
+abbrev pub flatField : FieldRead → FlatField
+flatField r = flatOn (r .number) (r .field)
+
+-- A copy of bytes to a room: the reader's number where it refuses, else 18 where the room is shorter than the bytes.
+abbrev pub copyingOn : ℕ → List ℕ → List ℕ → Writing
+copyingOn zero bs room = writingOf bs room
+copyingOn (suc n) bs room = refusedWriting (suc n) room

@@ -1,0 +1,72 @@
+// Answers with enums in them, as structs of numbers. specs/Flat.antt says how each stands for its answer.
+ghost use mathlib.Core.Path.{_≡_};
+ghost use Rattle.capi.specs.Flat.{isThere, numberIn, storedFrom};
+use page::Stored;
+
+// A reply as read.
+#[repr(C)]
+pub struct FlatReply {
+    // document 01's number
+    pub number: u8,
+    // the type
+    pub kind: u8,
+    pub echo: u8,
+    pub error: u8,
+    // whether the reply carries a value; 0 stands for none
+    pub has_value: bool,
+    pub value: u32,
+}
+
+// A field of a data message as read.
+#[repr(C)]
+pub struct FlatField {
+    // document 01's number
+    pub number: u8,
+    // 0x81 is an acceleration, 0x82 a rate, any other an unknown field
+    pub code: u8,
+    // the place in the message of an unknown field's first data byte; 0 with the other two
+    pub place: usize,
+    // the patterns of the three axes; 0 with an unknown field
+    pub x: u32,
+    pub y: u32,
+    pub z: u32,
+}
+
+// The values that a page keeps. Beside a `has_` that is false the value is not looked at, and is 0 where it is read.
+#[repr(C)]
+pub struct FlatValues {
+    pub has_baud: bool,
+    pub baud: u32,
+    pub has_accelerometer: bool,
+    pub accelerometer: u32,
+    pub has_gyroscope: bool,
+    pub gyroscope: u32,
+}
+
+pub(crate) fn is_there(stored: Stored) -> bool
+    ensures { λ r. ⌜ r ≡ isThere stored ⌝ }
+{
+    match stored {
+        Stored::Absent => false,
+        Stored::Value(_) => true,
+    }
+}
+
+pub(crate) fn number_in(stored: Stored) -> u32
+    ensures { λ r. ⌜ r ≡ numberIn stored ⌝ }
+{
+    match stored {
+        Stored::Absent => 0,
+        Stored::Value(x) => x,
+    }
+}
+
+pub(crate) fn stored_from(there: bool, x: u32) -> Stored
+    ensures { λ r. ⌜ r ≡ storedFrom there x ⌝ }
+{
+    if there {
+        Stored::Value(x)
+    } else {
+        Stored::Absent
+    }
+}

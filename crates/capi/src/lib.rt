@@ -1,0 +1,26 @@
+// The library's calls for C and Rust: each under its plain name, on numbers, slices (pointer, then length) and structs of
+// fixed layout by value. No call trusts an argument: what is not in order is answered by a number of document 01. Lent
+// slices must not overlap where one of them is written; that alone is the caller's to see to.
+mod feeding;
+mod flat;
+mod messages;
+mod pages;
+mod samples;
+
+pub use feeding::ketphiroj_feed;
+pub use feeding::ketphiroj_start;
+pub use flat::FlatField;
+pub use flat::FlatReply;
+pub use flat::FlatValues;
+pub use messages::ketphiroj_check_message;
+pub use messages::ketphiroj_read_reply;
+pub use messages::ketphiroj_write_command;
+pub use messages::ketphiroj_write_message;
+pub use pages::ketphiroj_check_page;
+pub use pages::ketphiroj_copy_body;
+pub use pages::ketphiroj_factory_page;
+pub use pages::ketphiroj_read_page;
+pub use pages::ketphiroj_write_page;
+pub use samples::ketphiroj_copy_field;
+pub use samples::ketphiroj_read_field;
+pub use samples::ketphiroj_write_data;

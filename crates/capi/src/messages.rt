@@ -1,0 +1,61 @@
+// Messages: the test of one, the plain writer, the command writer, the reply reader.
+ghost use mathlib.Core.Path.{_≡_};
+ghost use Rattle.message.specs.Whole.{wholeNumber};
+ghost use Rattle.message.specs.Write.{plainWriting};
+ghost use Rattle.client.specs.Writer.{commandWriting};
+ghost use Rattle.client.specs.Reader.{replyRead};
+ghost use Rattle.capi.specs.Flat.{flatReply};
+use crate::flat::FlatReply;
+use crate::flat::is_there;
+use crate::flat::number_in;
+use message::Written;
+
+// 0 where the bytes are one whole message with right sums; 21: not one whole message; 22: wrong sums.
+#[no_mangle]
+pub extern "C" fn ketphiroj_check_message(message: &[u8]) -> u8
+    ensures { λ r. ⌜ r ≡ wholeNumber (now (message .entry)) ⌝ }
+{
+    message::check_message(message)
+}
+
+// Writes the message of this type and payload to the front of `room`: number 0 and its length. 26: over 255 payload bytes;
+// 18: the room is too short. Nothing is written then.
+#[no_mangle]
+pub extern "C" fn ketphiroj_write_message(kind: u8, payload: &[u8], room: &mut [u8]) -> Written
+    ensures { λ r. ⌜ record { answer = r; room = now (room .exit) } ≡ plainWriting kind (now (payload .entry)) (now (room .entry)) ⌝ }
+{
+    message::write_message(kind, payload, room)
+}
+
+// Writes the command of this code and function to the front of `room`: number 0 and its length. Function 1 is written with
+// the value, 2 to 5 without, Ping (code 2) without both. 28: the board does not accept it; 18: the room is too short.
+// Nothing is written then.
+#[no_mangle]
+pub extern "C" fn ketphiroj_write_command(
+    code: u8,
+    function: u8,
+    value: u32,
+    room: &mut [u8],
+) -> Written
+    ensures { λ r. ⌜ record { answer = r; room = now (room .exit) } ≡ commandWriting code function value (now (room .entry)) ⌝ }
+{
+    client::write_command(code, function, value, room)
+}
+
+// Reads a reply that is one whole message: number 0. 21: not one whole message; 22: wrong sums; 23: not a reply. All else
+// is 0 then.
+#[no_mangle]
+pub extern "C" fn ketphiroj_read_reply(message: &[u8]) -> FlatReply
+    ensures { λ r. ⌜ r ≡ flatReply (replyRead (now (message .entry))) ⌝ }
+{
+    let reply = client::read_reply(message);
+    let value = reply.value;
+    FlatReply {
+        number: reply.number,
+        kind: reply.kind,
+        echo: reply.echo,
+        error: reply.error,
+        has_value: is_there(value),
+        value: number_in(value),
+    }
+}

@@ -1,0 +1,87 @@
+// The start-up page: the test of one, its values read and written, a body copied, and the factory page.
+ghost use mathlib.Core.Path.{_≡_};
+ghost use Rattle.message.specs.Write.{writingOf};
+ghost use Rattle.page.specs.Lookup.{valuesIn, bodyOf};
+ghost use Rattle.page.specs.Page.{factoryPage};
+ghost use Rattle.page.specs.Sound.{pageNumber, pageWriting};
+ghost use Rattle.capi.specs.Flat.{flatValues, valuesFrom};
+use crate::flat::FlatValues;
+use crate::flat::is_there;
+use crate::flat::number_in;
+use crate::flat::stored_from;
+use message::Written;
+use message::write_bytes;
+use page::Values;
+
+// 0 where the page is blank or sound; 19: not 64 bytes; 20: neither.
+#[no_mangle]
+pub extern "C" fn ketphiroj_check_page(page: &[u8]) -> u8
+    ensures { λ r. ⌜ r ≡ pageNumber (now (page .entry)) ⌝ }
+{
+    page::check_page(page)
+}
+
+// The values that a page holds. It is not tested: of a page that is neither blank nor sound they may be any.
+#[no_mangle]
+pub extern "C" fn ketphiroj_read_page(page: &[u8]) -> FlatValues
+    ensures { λ r. ⌜ r ≡ flatValues (valuesIn (now (page .entry))) ⌝ }
+{
+    let values = page::values_of(page);
+    let baud = values.baud;
+    let accelerometer = values.accelerometer;
+    let gyroscope = values.gyroscope;
+    FlatValues {
+        has_baud: is_there(baud),
+        baud: number_in(baud),
+        has_accelerometer: is_there(accelerometer),
+        accelerometer: number_in(accelerometer),
+        has_gyroscope: is_there(gyroscope),
+        gyroscope: number_in(gyroscope),
+    }
+}
+
+// The values that a flat struct stands for.
+fn values_from(flat: FlatValues) -> Values
+    ensures { λ r. ⌜ r ≡ valuesFrom flat ⌝ }
+{
+    let baud = stored_from(flat.has_baud, flat.baud);
+    let accelerometer = stored_from(flat.has_accelerometer, flat.accelerometer);
+    let gyroscope = stored_from(flat.has_gyroscope, flat.gyroscope);
+    Values {
+        baud,
+        accelerometer,
+        gyroscope,
+    }
+}
+
+// Writes the page anew so that it keeps these values: 0. 19: not 64 bytes; 20: a value that is there is not allowed. Nothing
+// is written then.
+#[no_mangle]
+pub extern "C" fn ketphiroj_write_page(values: FlatValues, page: &mut [u8]) -> u8
+    ensures { λ r. ⌜ record { number = r; page = now (page .exit) } ≡ pageWriting (valuesFrom values) (now (page .entry)) ⌝ }
+{
+    page::write_page(values_from(values), page)
+}
+
+// Copies the body under a code to the front of `room`: from the saved page if it has the entry, else from the factory page;
+// number 0 and its length, 0 where neither page has it. 18: the room is too short; nothing is written then.
+#[no_mangle]
+pub extern "C" fn ketphiroj_copy_body<'a>(
+    saved: &'a [u8],
+    factory: &'a [u8],
+    code: u8,
+    room: &mut [u8],
+) -> Written
+    ensures { λ r. ⌜ record { answer = r; room = now (room .exit) } ≡ writingOf (bodyOf (now (saved .entry)) (now (factory .entry)) code) (now (room .entry)) ⌝ }
+{
+    write_bytes(page::body(saved, factory, code), room)
+}
+
+// Writes the factory page to the front of `room`: number 0 and 64. 18: the room is too short; nothing is written then.
+#[no_mangle]
+pub extern "C" fn ketphiroj_factory_page(room: &mut [u8]) -> Written
+    ensures { λ r. ⌜ record { answer = r; room = now (room .exit) } ≡ writingOf factoryPage (now (room .entry)) ⌝ }
+{
+    let page = page::factory_page();
+    write_bytes(&page, room)
+}
