@@ -1,0 +1,63 @@
+/*
+ * A board on a blank page. A Ping comes in two parts on port 0; then port 1 is told to use 921600 baud and asked for the rate,
+ * and the replies are read as the controller reads them.
+ */
+#include "ketphiroj.h"
+
+#include <stdio.h>
+#include <string.h>
+
+static uint8_t page[KETPHIROJ_PAGE_SIZE];
+static uint8_t room[KETPHIROJ_REPLY_ROOM];
+static ketphiroj_board board;
+
+/* Byte 3 of a message is the length of its payload. */
+static size_t reply_length(void) {
+    return 6u + room[3];
+}
+
+/* Feeds a chunk, keeps the board, and prints what was answered. */
+static void feed(uint8_t port, const uint8_t *chunk, size_t length) {
+    ketphiroj_fed fed = ketphiroj_feed(port, board, chunk, length, room, sizeof room, page, sizeof page);
+    board = fed.board;
+    printf("port %u: number %u, taken %zu, skipped %zu", port, fed.number, fed.taken, fed.skipped);
+    if (fed.number == KETPHIROJ_DONE) {
+        printf(", reply");
+        for (size_t i = 0; i < reply_length(); i++) {
+            printf(" %02X", room[i]);
+        }
+    }
+    printf("\n");
+}
+
+static void print_reply(void) {
+    ketphiroj_reply reply = ketphiroj_read_reply(room, reply_length());
+    printf("read: number %u, echo %02X, error %u", reply.number, reply.echo, reply.error);
+    if (reply.has_value) {
+        printf(", value %u", reply.value);
+    }
+    printf("\n");
+}
+
+int main(void) {
+    memset(page, 0xFF, sizeof page);
+    ketphiroj_started started = ketphiroj_start(page, sizeof page);
+    board = started.board;
+    printf("start: number %u, %u baud\n", started.number, board.settings.baud);
+
+    uint8_t message[KETPHIROJ_LONGEST_MESSAGE];
+    ketphiroj_written ping = ketphiroj_write_command(0x02, 0, 0, message, sizeof message);
+    feed(0, message, 3);
+    feed(0, message + 3, ping.length - 3);
+    print_reply();
+
+    ketphiroj_written use = ketphiroj_write_command(0x01, 1, 921600, message, sizeof message);
+    feed(1, message, use.length);
+    print_reply();
+
+    ketphiroj_written ask = ketphiroj_write_command(0x01, 2, 0, message, sizeof message);
+    feed(1, message, ask.length);
+    print_reply();
+    printf("board: %u baud\n", board.settings.baud);
+    return 0;
+}

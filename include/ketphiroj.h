@@ -1,0 +1,195 @@
+/*
+ * Ketphiroj's calls for C. Each is proved to answer exactly what its definition says, for every argument:
+ * crates/capi/src has the contracts, crates/NAME/specs the definitions.
+ *
+ * What a caller must see to, and nothing else:
+ *   - a pointer with a length points to that many bytes, and is never NULL, not even with length 0;
+ *   - a buffer that a call writes overlaps no other buffer of the same call;
+ *   - a bool is true or false.
+ * The archive is for x86-64: size_t is 64 bits.
+ *
+ * No call keeps a pointer, allocates, or has a state of its own. What is refused writes nothing to any buffer.
+ */
+#ifndef KETPHIROJ_H
+#define KETPHIROJ_H
+
+#include <stdbool.h>
+#include <stddef.h>
+#include <stdint.h>
+
+#ifdef __cplusplus
+extern "C" {
+#endif
+
+enum {
+    KETPHIROJ_PORT_ROOM = 260,       /* the most bytes that a port holds */
+    KETPHIROJ_LONGEST_MESSAGE = 261,
+    KETPHIROJ_REPLY_ROOM = 16,       /* the longest reply, and the least room for a feed */
+    KETPHIROJ_PAGE_SIZE = 64,
+    KETPHIROJ_DATA_SIZE = 34         /* a data message of an acceleration and a rate */
+};
+
+/* The numbers that calls answer. Where more than one would fit, a call answers the first in its own list below. */
+enum {
+    KETPHIROJ_DONE = 0,
+    KETPHIROJ_CHUNK_USED_UP = 1, /* no whole message yet */
+    KETPHIROJ_BAD_PORT = 16,     /* not 0 or 1 */
+    KETPHIROJ_BAD_BOARD = 17,    /* a port holds over 260 bytes, or a working value is not allowed */
+    KETPHIROJ_SHORT_ROOM = 18,   /* under 16 bytes for a feed, else shorter than what is to be written */
+    KETPHIROJ_PAGE_LENGTH = 19,  /* a page is not 64 bytes */
+    KETPHIROJ_BAD_PAGE = 20,     /* a page is neither blank nor sound */
+    KETPHIROJ_NOT_WHOLE = 21,    /* not one whole message */
+    KETPHIROJ_BAD_SUMS = 22,
+    KETPHIROJ_BAD_TYPE = 23,     /* not a data message; not a reply */
+    KETPHIROJ_BAD_FIELDS = 24,   /* the fields do not fill the payload exactly */
+    KETPHIROJ_BAD_SIZE = 25,     /* a field 0x81 or 0x82 whose size is not 12 */
+    KETPHIROJ_LONG_PAYLOAD = 26, /* over 255 bytes */
+    KETPHIROJ_NO_FIELD = 27,     /* no field of that number */
+    KETPHIROJ_NO_COMMAND = 28    /* not a command that the board accepts */
+};
+
+/* ---- the board: kept by the caller, handed in and out by value */
+
+/* The first `held` bytes are what the port could not decide yet; the others are 0. */
+typedef struct {
+    uint8_t bytes[KETPHIROJ_PORT_ROOM];
+    size_t held;
+} ketphiroj_port;
+
+typedef struct {
+    uint32_t baud;
+    uint8_t accelerometer; /* ranges */
+    uint8_t gyroscope;
+} ketphiroj_settings;
+
+typedef struct {
+    ketphiroj_port first; /* port 0 */
+    ketphiroj_port second; /* port 1 */
+    ketphiroj_settings settings; /* the working values */
+} ketphiroj_board;
+
+typedef struct {
+    uint8_t number;
+    ketphiroj_board board;
+} ketphiroj_started;
+
+typedef struct {
+    uint8_t number;
+    size_t taken;   /* bytes taken from the chunk: feed again from there */
+    size_t skipped; /* bytes that were no message's */
+    bool saved;     /* whether a save was accepted: the page was written */
+    ketphiroj_board board;
+} ketphiroj_fed;
+
+/*
+ * A board with two empty ports, on the settings that the page keeps, or on the factory's for those that it does not.
+ * Numbers: 0; 19, 20: the board is then on the factory's settings.
+ */
+ketphiroj_started ketphiroj_start(const uint8_t *page, size_t page_length);
+
+/*
+ * Feeds a chunk to port 0 or 1.
+ * 0: a message was answered. Its reply is at the front of `room`: 4 bytes, payload, 2 bytes, where byte 3 is the length of the
+ *    payload; the rest of the room is left alone. Where `saved`, the page was written anew, else it is as it was.
+ * 1: the whole chunk was taken, and no message ended in it. Nothing was written.
+ * 16, 17, 18, 19, 20: refused. Nothing was taken or written, and the board is the one given.
+ */
+ketphiroj_fed ketphiroj_feed(
+    uint8_t port, ketphiroj_board board, const uint8_t *chunk, size_t chunk_length, uint8_t *room, size_t room_length,
+    uint8_t *page, size_t page_length);
+
+/* ---- messages */
+
+/* What a writer answers. With any number but 0 the length is 0 and nothing was written. */
+typedef struct {
+    uint8_t number;
+    size_t length; /* bytes written, from the room's front; the rest of the room is left alone */
+} ketphiroj_written;
+
+/* Is this one whole message with right sums? Numbers: 0; 21, 22. */
+uint8_t ketphiroj_check_message(const uint8_t *message, size_t message_length);
+
+/* Writes the message of a type and a payload. Numbers: 0; 26, 18. */
+ketphiroj_written ketphiroj_write_message(
+    uint8_t kind, const uint8_t *payload, size_t payload_length, uint8_t *room, size_t room_length);
+
+/*
+ * Writes a command. Codes: 0x02 Ping, 0x01 baud rate, 0x07 accelerometer range, 0x08 gyroscope range. Functions: 1 sets the
+ * value, 2 asks for it, 3 saves it, 4 loads the saved one, 5 loads the factory's. The value is looked at with function 1 alone,
+ * the function not with Ping. Numbers: 0; 28, 18.
+ */
+ketphiroj_written ketphiroj_write_command(uint8_t code, uint8_t function, uint32_t value, uint8_t *room, size_t room_length);
+
+/* A reply. With any number but 0 all else is 0 and false. */
+typedef struct {
+    uint8_t number;
+    uint8_t kind; /* the type, as in the command */
+    uint8_t echo; /* the command's code */
+    uint8_t error; /* 0 to 4 */
+    bool has_value;
+    uint32_t value; /* 0 where there is none */
+} ketphiroj_reply;
+
+/* Reads a reply that is one whole message. Numbers: 0; 21, 22, 23. */
+ketphiroj_reply ketphiroj_read_reply(const uint8_t *message, size_t message_length);
+
+/* ---- data messages: an axis goes in and out as the 32 bits of an IEEE 754 single float, NaN patterns too */
+
+/* A field. With any number but 0 all else is 0. */
+typedef struct {
+    uint8_t number;
+    uint8_t code; /* 0x81: acceleration in g; 0x82: rate in degrees per second; any other: unknown */
+    size_t place; /* of an unknown field: where its data starts in the message; else 0 */
+    uint32_t x;   /* of an acceleration and a rate; else 0 */
+    uint32_t y;
+    uint32_t z;
+} ketphiroj_field;
+
+/* Reads field k, counted from 0. Numbers: 0; 21, 22, 23, 24, 25, 27. */
+ketphiroj_field ketphiroj_read_field(const uint8_t *message, size_t message_length, size_t k);
+
+/* Copies the data bytes of field k to the room's front. Numbers: 0; 21, 22, 23, 24, 25, 27, 18. */
+ketphiroj_written ketphiroj_copy_field(
+    const uint8_t *message, size_t message_length, size_t k, uint8_t *room, size_t room_length);
+
+/* Writes the data message of an acceleration and a rate, 34 bytes. Numbers: 0; 18. */
+ketphiroj_written ketphiroj_write_data(
+    uint32_t ax, uint32_t ay, uint32_t az, uint32_t rx, uint32_t ry, uint32_t rz, uint8_t *room, size_t room_length);
+
+/* ---- the start-up page */
+
+/* The values that a page keeps. A value whose `has_` is false is absent, whatever number stands beside it. */
+typedef struct {
+    bool has_baud;
+    uint32_t baud;
+    bool has_accelerometer;
+    uint32_t accelerometer;
+    bool has_gyroscope;
+    uint32_t gyroscope;
+} ketphiroj_values;
+
+/* Is this page blank or sound? Numbers: 0; 19, 20. */
+uint8_t ketphiroj_check_page(const uint8_t *page, size_t page_length);
+
+/* The values on a page, 0 beside a `has_` that is false. The page is not tested: use ketphiroj_check_page. */
+ketphiroj_values ketphiroj_read_page(const uint8_t *page, size_t page_length);
+
+/* Writes all 64 bytes of the page, so that it keeps these values. Numbers: 0; 19, 20 (a value that is there is not allowed). */
+uint8_t ketphiroj_write_page(ketphiroj_values values, uint8_t *page, size_t page_length);
+
+/*
+ * Copies the bytes under a code to the room's front: from the saved page if it has an entry, else from the factory page.
+ * Number 0, with length 0 where neither has one; 18.
+ */
+ketphiroj_written ketphiroj_copy_body(
+    const uint8_t *saved, size_t saved_length, const uint8_t *factory, size_t factory_length, uint8_t code, uint8_t *room,
+    size_t room_length);
+
+/* Writes the factory page, 64 bytes, to the room's front. Numbers: 0; 18. */
+ketphiroj_written ketphiroj_factory_page(uint8_t *room, size_t room_length);
+
+#ifdef __cplusplus
+}
+#endif
+
+#endif
