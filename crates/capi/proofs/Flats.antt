@@ -1,10 +1,10 @@
--- The flat structs, made of the answers of the calls behind them; and their values come back.
+-- The flat structs, made of the answers of the calls behind them.
 use Prim.Native.Nat.{ℕ}
-use mathlib.Core.Path.{_≡_, refl, ap, _∙_}
+use mathlib.Core.Path.{_≡_, ap, _∙_}
 use mathlib.Core.Bool.{Bool, true}
 use mathlib.Core.List.{List}
 use Rattle.page.specs.declared.setting.Stored.{Stored}
-use Rattle.page.specs.declared.setting.Stored.the-variants.{Absent, Value}
+use Rattle.page.specs.declared.setting.Stored.the-variants.{Value}
 use Rattle.page.specs.declared.setting.Values.{Values}
 use Rattle.page.specs.Sound.{PageWriting, pageWriting}
 use Rattle.client.specs.declared.reader.Reply.{Reply}
@@ -15,7 +15,6 @@ use Rattle.sample.specs.Axes.{bitsOf}
 use Rattle.capi.specs.declared.flat.FlatField.{FlatField}
 use Rattle.capi.specs.declared.flat.FlatValues.{FlatValues}
 use Rattle.capi.specs.Flat.{isThere, numberIn, storedFrom, flatReply, flatValues, valuesFrom, flatAxes, flatField}
-use Rattle.capi.specs.Theorems.{ValuesBack}
 
 -- ---- values that may be absent
 
@@ -40,13 +39,6 @@ values-made f b a g p q r = rw (p, q, r)
 pub page-made : (v : Values) (f : FlatValues) → v ≡ valuesFrom f → (page : List ℕ) (w : PageWriting) → w ≡ pageWriting v page
     → w ≡ pageWriting (valuesFrom f) page
 page-made v f e page w h = h ∙ ap (λ (x : Values). pageWriting x page) e
-
-stored-back : (s : Stored) → storedFrom (isThere s) (numberIn s) ≡ s
-stored-back Absent = refl
-stored-back (Value x) = refl
-
-pub values-back : ValuesBack
-values-back v = rw (stored-back (v .baud), stored-back (v .accelerometer), stored-back (v .gyroscope))
 
 -- ---- fields
 

@@ -1,2 +1,3 @@
-pub mod Flats
+pub mod Backs
 pub mod Copies
+pub mod Flats
