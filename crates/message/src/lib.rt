@@ -1,11 +1,13 @@
 // An MS CIP message: its sums, what stands at the front of unread bytes, the seek for the next message, the test of one
-// whole message, and the plain writer. The definitions that the contracts cite stand in specs/.
+// whole message, the plain writer, and the writer of plain bytes. The definitions that the contracts cite stand in specs/.
+mod bytes;
 mod fletcher;
 mod front;
 mod whole;
 mod window;
 mod write;
 
+pub use bytes::write_bytes;
 pub use fletcher::Sums;
 pub use front::front_at;
 pub use front::seek;
@@ -15,5 +17,4 @@ pub use window::front_over;
 pub use window::seek_held;
 pub use window::seek_over;
 pub use write::Written;
-pub use write::write_bytes;
 pub use write::write_message;

@@ -4,7 +4,7 @@ ghost use Prim.Native.Nat.{_+_, _≤_};
 ghost use mathlib.Core.List.{_++_};
 ghost use lib.ListN.{length, take, drop};
 ghost use Rattle.message.specs.Message.{summedBytes, withSums};
-ghost use Rattle.message.specs.Write.{writingOf, plainWriting};
+ghost use Rattle.message.specs.Write.{plainWriting};
 use crate::fletcher::Sums;
 
 // What a writer answers: document 01's number, and the message's length, 0 where it is refused.
@@ -37,28 +37,6 @@ pub fn write_message(kind: u8, payload: &[u8], room: &mut [u8]) -> Written
     Written {
         number: 0,
         length: size,
-    }
-}
-
-// Writes bytes to the front of `room`, where it has room for all of them.
-pub fn write_bytes(bytes: &[u8], room: &mut [u8]) -> Written
-    ensures { λ r. ⌜ record { answer = r; room = now (room .exit) } ≡ writingOf (now (bytes .entry)) (now (room .entry)) ⌝ }
-{
-    let n = bytes.len();
-    if room.len() < n {
-        return Written {
-            number: 18,
-            length: 0,
-        };
-    }
-    let mut i = 0;
-    while i < n {
-        room[i] = bytes[i];
-        i += 1;
-    }
-    Written {
-        number: 0,
-        length: n,
     }
 }
 

@@ -1,12 +1,12 @@
--- `message::write::write_bytes` meets its contract. Invariant: the first i bytes are copied, the others are as they came.
+-- `message::bytes::write_bytes` meets its contract. Invariant: the first i bytes are copied, the others are as they came.
 use Prim.Native.Nat.{_≤_, _-_}
 use mathlib.Core.List.{_++_}
 use mathlib.Core.Path.{_≡_}
 use lib.ListN.{length, take, drop}
 use borrow.Author.Needs.{needs}
 use Rattle.message.proofs.Writes.{bytes-refused, copied-more, bytes-written}
-use Rattle.message.proofs.write.write_bytes.Statement.{statement}
-use Rattle.message.proofs.write.write_bytes.Tie as tie
+use Rattle.message.proofs.bytes.write_bytes.Statement.{statement}
+use Rattle.message.proofs.bytes.write_bytes.Tie as tie
 
 abbrev Inv-loop : tie.InvT-loop
 Inv-loop bytes room₀ n i₀ room i = (i ≤ length bytes) × (length room ≡ length room₀) × (room ≡ take i bytes ++ drop i room₀)
