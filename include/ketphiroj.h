@@ -98,6 +98,40 @@ ketphiroj_fed ketphiroj_feed(
     uint8_t port, ketphiroj_board board, const uint8_t *chunk, size_t chunk_length, uint8_t *room, size_t room_length,
     uint8_t *page, size_t page_length);
 
+/* What a feed in place answers: as a feed, with the named port's held count and the settings afterwards. */
+typedef struct {
+    uint8_t number;
+    size_t taken;
+    size_t skipped;
+    bool saved;
+    size_t held;
+    ketphiroj_settings settings;
+} ketphiroj_stepped;
+
+/*
+ * The same feed without a copy of the board: `bytes` are the 260 bytes of the named port, which are written in place, `first`
+ * and `second` the held counts of ports 0 and 1. The caller puts the answer's held count and settings back into its board, as
+ * ketphiroj_feed_board does. Numbers as for a feed; an array that is not 260 bytes gives 17. A refusal answers the held count
+ * and the settings given.
+ */
+ketphiroj_stepped ketphiroj_feed_in_place(
+    uint8_t port, uint8_t *bytes, size_t bytes_length, size_t first, size_t second, ketphiroj_settings settings,
+    const uint8_t *chunk, size_t chunk_length, uint8_t *room, size_t room_length, uint8_t *page, size_t page_length);
+
+/* Feeds a board that stays where it is. The fastest way, and the one with the least stack. */
+static inline ketphiroj_stepped ketphiroj_feed_board(
+    uint8_t port, ketphiroj_board *board, const uint8_t *chunk, size_t chunk_length, uint8_t *room, size_t room_length,
+    uint8_t *page, size_t page_length)
+{
+    ketphiroj_port *named = port == 0 ? &board->first : &board->second;
+    ketphiroj_stepped answer = ketphiroj_feed_in_place(
+        port, named->bytes, KETPHIROJ_PORT_ROOM, board->first.held, board->second.held, board->settings, chunk, chunk_length,
+        room, room_length, page, page_length);
+    named->held = answer.held;
+    board->settings = answer.settings;
+    return answer;
+}
+
 /* ---- messages */
 
 /* What a writer answers. With any number but 0 the length is 0 and nothing was written. */

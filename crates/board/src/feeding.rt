@@ -94,6 +94,7 @@ fn keep_after(bytes: &mut [u8], held: usize, chunk: &[u8], k: usize, n: usize, g
 }
 
 // What a step of a port answers. The port's bytes stay in its array.
+#[repr(C)]
 pub struct Stepped {
     pub number: u8,
     pub taken: usize,

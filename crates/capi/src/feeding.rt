@@ -1,10 +1,12 @@
 // The board: starting and feeding. The board itself goes in and out by value: the caller keeps it.
 ghost use mathlib.Core.Path.{_≡_};
 ghost use Rattle.board.specs.Start.{startOf};
-ghost use Rattle.board.specs.Feed.{feedOf};
+ghost use Rattle.board.specs.Feed.{feedOf, placeOf};
 use board::Board;
 use board::Fed;
 use board::Started;
+use board::Stepped;
+use command::Settings;
 
 // A board on the settings that the page keeps; number 0. With 19 (not 64 bytes) or 20 (neither blank nor sound) it is a
 // board on the factory's settings. Nothing is written.
@@ -30,4 +32,23 @@ pub extern "C" fn ketphiroj_feed(
     ensures { λ r. ⌜ record { answer = r; room = now (room .exit); page = now (page .exit) } ≡ feedOf port board (now (chunk .entry)) (now (room .entry)) (now (page .entry)) ⌝ }
 {
     board::feed(port, board, chunk, room, page)
+}
+
+// The same for a caller that keeps the board, without a copy of it: `bytes` are the 260 bytes of the named port, written in
+// place, `first` and `second` the held counts of ports 0 and 1. The answer has the named port's held count and the settings
+// afterwards. An array that is not 260 bytes gives 17.
+#[no_mangle]
+pub extern "C" fn ketphiroj_feed_in_place(
+    port: u8,
+    bytes: &mut [u8],
+    first: usize,
+    second: usize,
+    settings: Settings,
+    chunk: &[u8],
+    room: &mut [u8],
+    page: &mut [u8],
+) -> Stepped
+    ensures { λ r. ⌜ record { step = r; bytes = now (bytes .exit); room = now (room .exit); page = now (page .exit) } ≡ placeOf port (now (bytes .entry)) first second settings (now (chunk .entry)) (now (room .entry)) (now (page .entry)) ⌝ }
+{
+    board::feed_in_place(port, bytes, first, second, settings, chunk, room, page)
 }

@@ -8,6 +8,7 @@ mod pages;
 mod samples;
 
 pub use feeding::ketphiroj_feed;
+pub use feeding::ketphiroj_feed_in_place;
 pub use feeding::ketphiroj_start;
 pub use flat::FlatField;
 pub use flat::FlatReply;
