@@ -1,0 +1,45 @@
+//! The board's protocol in plain Rust, and material to test with.
+//!
+//! This is a reading of the paper ("01", the board's protocol, line by line) and of nothing else. It is slow and
+//! obvious, in the paper's words and order; numbers such as 01-014 are those of the paper's sentences. [`generate`]
+//! makes messages, streams, pages, boards and lists of feeds from a seed.
+//!
+//! The paper, section by section:
+//!
+//! | Section | Module |
+//! |---|---|
+//! | A message | [`message`] |
+//! | The scan | [`scan`](mod@scan) for a whole stream, [`port`] for a feed |
+//! | Handling one message | [`handling`]; the command writer in [`writers`], the reply reader in [`readers`] |
+//! | The start-up page | [`page`]; starting in [`port`] |
+//! | The plain reckoning | [`reckoning`] |
+//! | Numbers of the calls | [`number`] |
+//! | Data messages | [`readers`], [`writers`] |
+//! | Listing | [`listing`](mod@listing) |
+//!
+//! The feed and the plain reckoning are two readings that share only the sums, the parts of a message, the handling of
+//! one message on values, and the page's values and writing. The scan is written twice.
+
+#![forbid(unsafe_code)]
+
+pub mod generate;
+pub mod handling;
+pub mod listing;
+pub mod message;
+pub mod number;
+pub mod page;
+pub mod port;
+pub mod readers;
+pub mod reckoning;
+pub mod scan;
+pub mod writers;
+
+pub use handling::{allowed, error_of, handle, reply_of, value_size, Handled, Settings, FACTORY};
+pub use listing::listing;
+pub use message::{check_message, message, sums, sums_right, Sums};
+pub use page::{allowed_values, body, check_page, factory_page, read_values, values, write_page, Values};
+pub use port::{feed, start, Board, Fed, Port};
+pub use readers::{field_data, read_field, read_reply, Field, Reply};
+pub use reckoning::{Reckoned, Reckoning};
+pub use scan::{scan, Event};
+pub use writers::{write_command, write_data, write_message};

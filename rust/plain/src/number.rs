@@ -1,0 +1,32 @@
+//! Numbers of the calls (01-069 to 01-083).
+
+/// "done; for a feed, a message was reported and its reply written"
+pub const DONE: u8 = 0;
+/// "feed: chunk used up, nothing more to report, nothing written"
+pub const USED_UP: u8 = 1;
+/// "port not 0 or 1"
+pub const PORT: u8 = 16;
+/// "board unsound: a port holds over 260, or a working value is not allowed"
+pub const UNSOUND: u8 = 17;
+/// "room too small: feed under 16 bytes, otherwise under the message's length"
+pub const ROOM: u8 = 18;
+/// "page not 64 bytes"
+pub const PAGE_LENGTH: u8 = 19;
+/// "page neither blank nor sound"
+pub const PAGE: u8 = 20;
+/// "not one whole message: under 6 bytes, no A5 A5, or not L + 6 bytes"
+pub const NOT_WHOLE: u8 = 21;
+/// "sums wrong"
+pub const SUMS: u8 = 22;
+/// "data reader: not type A2; reply reader: not a reply as above"
+pub const NOT_THIS_KIND: u8 = 23;
+/// "fields do not fill the payload exactly"
+pub const FIELDS: u8 = 24;
+/// "field 81 or 82 whose size is not 12"
+pub const FIELD_SIZE: u8 = 25;
+/// "payload over 255"
+pub const PAYLOAD: u8 = 26;
+/// "no field of that number, counted from 0"
+pub const NO_FIELD: u8 = 27;
+/// "command to be written is not one the board accepts"
+pub const COMMAND: u8 = 28;

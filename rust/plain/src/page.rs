@@ -1,0 +1,176 @@
+//! The start-up page (01-049 to 01-056).
+
+use crate::handling::{allowed, value_size, ACCELEROMETER, BAUD, FACTORY, GYROSCOPE};
+use crate::message::{bytes_of, number_of};
+use crate::number;
+
+/// 01-049: "64 bytes"
+pub const PAGE: usize = 64;
+
+/// The page's values, "one or none under each code" (01-060).
+#[derive(Clone, Copy, Debug, Default, PartialEq, Eq)]
+pub struct Values {
+    /// Under code 01.
+    pub baud: Option<u32>,
+    /// Under code 07.
+    pub accelerometer: Option<u8>,
+    /// Under code 08.
+    pub gyroscope: Option<u8>,
+}
+
+/// 01-052: "Codes ascend."
+pub const CODES: [u8; 3] = [BAUD, ACCELEROMETER, GYROSCOPE];
+
+impl Values {
+    /// The value under code 01, 07 or 08, if there is one.
+    pub fn value(&self, code: u8) -> Option<u32> {
+        match code {
+            BAUD => self.baud,
+            ACCELEROMETER => self.accelerometer.map(u32::from),
+            GYROSCOPE => self.gyroscope.map(u32::from),
+            _ => panic!("no setting has code {code:02X}"),
+        }
+    }
+
+    /// 01-055: "A save puts its value in, keeps the other entries"
+    pub fn with(mut self, code: u8, value: u32) -> Values {
+        match code {
+            BAUD => self.baud = Some(value),
+            ACCELEROMETER => self.accelerometer = Some(u8::try_from(value).expect("a range is one byte")),
+            GYROSCOPE => self.gyroscope = Some(u8::try_from(value).expect("a range is one byte")),
+            _ => panic!("no setting has code {code:02X}"),
+        }
+        self
+    }
+}
+
+/// Whether each value that is there is allowed.
+pub fn allowed_values(values: &Values) -> bool {
+    CODES.iter().all(|&code| match values.value(code) {
+        None => true,
+        Some(value) => allowed(code, value),
+    })
+}
+
+/// The writing of values, allowed or not; blank with none.
+pub fn write_page(values: &Values) -> [u8; PAGE] {
+    let mut entries: Vec<(u8, Vec<u8>)> = Vec::new();
+    // "Codes ascend."
+    for code in CODES {
+        if let Some(value) = values.value(code) {
+            let size = value_size(code).expect("a setting has a value");
+            entries.push((code, bytes_of(value, size)));
+        }
+    }
+
+    // "then FF to the end"; "Blank: 64 bytes FF, no entry."
+    let mut page = [0xFF; PAGE];
+    if entries.is_empty() {
+        return page;
+    }
+
+    // "Byte 0: the number of entries, 1 to 3."
+    page[0] = entries.len() as u8;
+    let mut place = 1;
+    // "Then for each entry code, offset, length;"
+    let mut offset = 1 + 3 * entries.len();
+    for (code, body) in &entries {
+        page[place] = *code;
+        page[place + 1] = offset as u8;
+        page[place + 2] = body.len() as u8;
+        place += 3;
+        offset += body.len();
+    }
+    // "then the bodies in the same order, close together;"
+    for (_, body) in &entries {
+        page[place..place + body.len()].copy_from_slice(body);
+        place += body.len();
+    }
+    page
+}
+
+/// 01-056: "the factory page": the writing of the factory values.
+pub fn factory_page() -> [u8; PAGE] {
+    write_page(&Values {
+        baud: Some(FACTORY.baud),
+        accelerometer: Some(FACTORY.accelerometer),
+        gyroscope: Some(FACTORY.gyroscope),
+    })
+}
+
+/// The body that a page has under a code, if the page has the entry. For any bytes, as decided: a page that is not 64
+/// bytes, or whose count is over 3, has no entry; a body that runs past the end is empty. Of two entries with the same
+/// code the first is meant.
+fn entry(page: &[u8], code: u8) -> Option<&[u8]> {
+    if page.len() != PAGE {
+        return None;
+    }
+    let count = usize::from(page[0]);
+    if count > 3 {
+        return None;
+    }
+    for place in 0..count {
+        let entry = &page[1 + 3 * place..4 + 3 * place];
+        if entry[0] == code {
+            let offset = usize::from(entry[1]);
+            let length = usize::from(entry[2]);
+            return Some(page.get(offset..offset + length).unwrap_or(&[]));
+        }
+    }
+    None
+}
+
+/// 01-056: "take the body from the page if it has the entry, else from the factory page". Where neither has it, the
+/// body is empty.
+pub fn body<'a>(saved: &'a [u8], factory: &'a [u8], code: u8) -> &'a [u8] {
+    match entry(saved, code) {
+        Some(body) => body,
+        None => entry(factory, code).unwrap_or(&[]),
+    }
+}
+
+/// The values that a page of any bytes holds, allowed or not. As decided: an entry whose body has not the value's size
+/// holds no value.
+pub fn read_values(page: &[u8]) -> Values {
+    let mut values = Values::default();
+    for code in CODES {
+        if let Some(body) = entry(page, code) {
+            if Some(body.len()) == value_size(code) {
+                values = values.with(code, number_of(body));
+            }
+        }
+    }
+    values
+}
+
+/// The values of a blank or sound page; nothing for another one.
+///
+/// 01-053: "Blank: 64 bytes FF, no entry." 01-054: "Sound: blank, or exactly the writing of some allowed values under
+/// codes 01, 07, 08."
+pub fn values(page: &[u8]) -> Option<Values> {
+    if page.len() != PAGE {
+        return None;
+    }
+    if page.iter().all(|&byte| byte == 0xFF) {
+        return Some(Values::default());
+    }
+    // If the page is the writing of some allowed values, they are those that are read from it.
+    let read = read_values(page);
+    if allowed_values(&read) && write_page(&read)[..] == *page {
+        return Some(read);
+    }
+    None
+}
+
+/// 0, or the first of 19 and 20 that applies.
+///
+/// 01-074: "19 | page not 64 bytes"; 01-075: "20 | page neither blank nor sound".
+pub fn check_page(page: &[u8]) -> u8 {
+    if page.len() != PAGE {
+        return number::PAGE_LENGTH;
+    }
+    if values(page).is_none() {
+        return number::PAGE;
+    }
+    number::DONE
+}

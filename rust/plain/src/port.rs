@@ -1,0 +1,181 @@
+//! Ports, the board, starting and feeding (01-013 to 01-025, 01-056, 01-084 to 01-088).
+
+use crate::handling::{handle, Settings, ACCELEROMETER, BAUD, FACTORY, GYROSCOPE};
+use crate::message::{length_of, number_of, sums_right};
+use crate::number;
+use crate::page::{body, check_page, factory_page, values, write_page};
+
+/// 01-019: "A port holds at most 260 bytes of an undecided message or of bytes not yet looked at."
+#[derive(Clone, Copy, Debug, PartialEq, Eq)]
+pub struct Port {
+    pub bytes: [u8; 260],
+    pub held: usize,
+}
+
+/// 01-020: "A fresh port holds nothing, and the limits belong to its kind of record."
+impl Port {
+    /// The most that a port holds.
+    pub const MOST_HELD: usize = 260;
+    /// The longest message.
+    pub const LONGEST_MESSAGE: usize = 261;
+    /// The longest reply, and the least room of a feed.
+    pub const LONGEST_REPLY: usize = 16;
+
+    pub fn fresh() -> Port {
+        Port { bytes: [0; 260], held: 0 }
+    }
+}
+
+#[derive(Clone, Copy, Debug, PartialEq, Eq)]
+pub struct Board {
+    pub ports: [Port; 2],
+    pub settings: Settings,
+}
+
+/// Starting: the number and the board.
+///
+/// 01-084: "Starting tests 19, 20". 01-087: a refusal returns "the factory settings and two fresh ports".
+pub fn start(page: &[u8]) -> (u8, Board) {
+    let refused = check_page(page);
+    if refused != number::DONE {
+        return (refused, Board { ports: [Port::fresh(), Port::fresh()], settings: FACTORY });
+    }
+    // "Loading, and starting, take the body from the page if it has the entry, else from the factory page."
+    let factory = factory_page();
+    let settings = Settings {
+        baud: number_of(body(page, &factory, BAUD)),
+        accelerometer: body(page, &factory, ACCELEROMETER)[0],
+        gyroscope: body(page, &factory, GYROSCOPE)[0],
+    };
+    (number::DONE, Board { ports: [Port::fresh(), Port::fresh()], settings })
+}
+
+/// 01-023: "It answers the number, the bytes taken, the bytes skipped, whether a save was accepted, and the new board."
+#[derive(Clone, Debug, PartialEq, Eq)]
+pub struct Fed {
+    pub number: u8,
+    pub taken: usize,
+    pub skipped: usize,
+    pub saved: bool,
+    pub board: Board,
+}
+
+/// How the held bytes leave the scan.
+enum Left {
+    Skip,
+    Undecided,
+    Good(usize),
+    Damaged(usize),
+}
+
+fn look_at(held: &[u8]) -> Left {
+    match held {
+        // Nothing held speaks against a message, and it is too short for one: undecided.
+        [] => Left::Undecided,
+        // "the first byte is not A5, [..]: one byte is skipped;"
+        [first, ..] if *first != 0xA5 => Left::Skip,
+        // "or a second byte is there and is not A5: one byte is skipped;"
+        [_, second, ..] if *second != 0xA5 => Left::Skip,
+        // "otherwise, until L + 6 bytes are there, it is undecided;"
+        [_, _, _, l, ..] if held.len() >= usize::from(*l) + 6 => {
+            let whole = length_of(held) + 6;
+            if sums_right(&held[..whole]) {
+                Left::Good(whole)
+            } else {
+                Left::Damaged(whole)
+            }
+        }
+        _ => Left::Undecided,
+    }
+}
+
+/// 01-084: "a feed 16 to 20"; 01-085: "Order as listed". 0 where none applies.
+fn refusal(port: u8, board: &Board, room: &[u8], page: &[u8]) -> u8 {
+    // "16 | port not 0 or 1"
+    if port != 0 && port != 1 {
+        return number::PORT;
+    }
+    // "17 | board unsound: a port holds over 260, or a working value is not allowed"
+    if board.ports.iter().any(|port| port.held > Port::MOST_HELD) || !board.settings.allowed() {
+        return number::UNSOUND;
+    }
+    // "18 | room too small: feed under 16 bytes"
+    if room.len() < Port::LONGEST_REPLY {
+        return number::ROOM;
+    }
+    // "19 | page not 64 bytes"; "20 | page neither blank nor sound"
+    check_page(page)
+}
+
+/// 01-021: "A feed names a port (0 or 1), the board, a chunk, a reply room and the page."
+pub fn feed(port: u8, board: &Board, chunk: &[u8], room: &mut [u8], page: &mut [u8]) -> Fed {
+    // "A refusal takes 0 bytes, skips 0, returns the board given [..] and writes nothing."
+    let refused = refusal(port, board, room, page);
+    if refused != number::DONE {
+        return Fed { number: refused, taken: 0, skipped: 0, saved: false, board: *board };
+    }
+
+    let fed = &board.ports[usize::from(port)];
+    let mut held: Vec<u8> = fed.bytes[..fed.held].to_vec();
+    let mut taken = 0;
+    let mut skipped = 0;
+    loop {
+        match look_at(&held) {
+            Left::Skip => {
+                held.remove(0);
+                skipped += 1;
+            }
+            // "It takes a byte from the chunk only when the held bytes leave the scan undecided,"
+            Left::Undecided if taken < chunk.len() => {
+                held.push(chunk[taken]);
+                taken += 1;
+            }
+            // "and stops [..] at the chunk's end."
+            Left::Undecided => {
+                let board = with_held(board, port, &held);
+                return Fed { number: number::USED_UP, taken, skipped, saved: false, board };
+            }
+            // "and stops at the first reported message"
+            Left::Good(whole) => {
+                let message: Vec<u8> = held.drain(..whole).collect();
+                let (saved, settings) = report(&message, board.settings, room, page);
+                let board = Board { settings, ..with_held(board, port, &held) };
+                return Fed { number: number::DONE, taken, skipped, saved, board };
+            }
+            Left::Damaged(whole) => {
+                let message: Vec<u8> = held[..whole].to_vec();
+                held.remove(0);
+                skipped += 1;
+                let (saved, settings) = report(&message, board.settings, room, page);
+                let board = Board { settings, ..with_held(board, port, &held) };
+                return Fed { number: number::DONE, taken, skipped, saved, board };
+            }
+        }
+    }
+}
+
+/// 01-024: "After every accepted feed the fed port's room past its held bytes is zero, and the other port's record is
+/// as it came."
+fn with_held(board: &Board, port: u8, held: &[u8]) -> Board {
+    let mut bytes = [0; 260];
+    bytes[..held.len()].copy_from_slice(held);
+    let mut board = *board;
+    board.ports[usize::from(port)] = Port { bytes, held: held.len() };
+    board
+}
+
+/// Handles the message, writes its reply and, where a save was accepted, the page. Gives the save mark and the
+/// settings.
+///
+/// 01-088: "A write to a room touches only the message's own bytes, from the room's front; a save writes the 64 bytes
+/// of the page."
+fn report(message: &[u8], settings: Settings, room: &mut [u8], page: &mut [u8]) -> (bool, Settings) {
+    let values = values(page).expect("the page of an accepted feed is blank or sound");
+    let handled = handle(message, settings, values);
+    room[..handled.reply.len()].copy_from_slice(&handled.reply);
+    if handled.saved {
+        // "A save puts its value in, keeps the other entries, and writes the page anew."
+        page.copy_from_slice(&write_page(&handled.values));
+    }
+    (handled.saved, handled.settings)
+}

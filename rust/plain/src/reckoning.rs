@@ -1,0 +1,138 @@
+//! The plain reckoning (01-057 to 01-068).
+
+use crate::handling::{handle, Settings, ACCELEROMETER, BAUD, FACTORY, GYROSCOPE};
+use crate::number;
+use crate::page::{values, write_page, Values};
+use crate::scan::{scan, Event};
+
+/// 01-060: "It keeps, for each port, all bytes taken and the count n of messages reported, at first none and 0".
+///
+/// The number of the port's last accepted feed says where the scan then stood; it is kept for "since that port's last
+/// accepted feed" (01-067). Before any feed nothing is left, as with number 1.
+#[derive(Clone, Debug, PartialEq, Eq)]
+struct Stream {
+    taken: Vec<u8>,
+    n: usize,
+    last: u8,
+}
+
+/// Where the scan stands, and how many bytes it has skipped until there.
+struct Standing {
+    place: usize,
+    skipped: usize,
+}
+
+impl Stream {
+    /// 01-066: "The scan then stands after the good message, or one byte after the start of the damaged one; with
+    /// number 1, where it is undecided or nothing is left."
+    fn standing(&self) -> Standing {
+        let mut standing = Standing { place: 0, skipped: 0 };
+        let mut messages = 0;
+        for event in scan(&self.taken) {
+            if self.last == number::DONE && messages == self.n {
+                break;
+            }
+            standing.place = event.after();
+            standing.skipped += event.skipped();
+            if event.message().is_some() {
+                messages += 1;
+            }
+        }
+        standing
+    }
+}
+
+/// What the reckoning says of one feed.
+#[derive(Clone, Debug, PartialEq, Eq)]
+pub struct Reckoned {
+    pub number: u8,
+    pub taken: usize,
+    pub skipped: usize,
+    pub saved: bool,
+    /// Empty where there is no reply.
+    pub reply: Vec<u8>,
+}
+
+#[derive(Clone, Debug, PartialEq, Eq)]
+pub struct Reckoning {
+    ports: [Stream; 2],
+    settings: Settings,
+    values: Values,
+}
+
+impl Reckoning {
+    /// 01-059: "The reckoning is given the page that starting got". A list of feeds begins with a page that starting
+    /// accepts, so the page is blank or sound; no other page has values to reckon with.
+    pub fn new(page: &[u8]) -> Reckoning {
+        let values = values(page).expect("the reckoning begins with a blank or sound page");
+        let empty = Stream { taken: Vec::new(), n: 0, last: number::USED_UP };
+        // "the working values, set as starting sets them; and the page's values, one or none under each code."
+        let started = |code: u8| values.value(code).unwrap_or(FACTORY.value(code));
+        let settings = FACTORY
+            .with(BAUD, started(BAUD))
+            .with(ACCELEROMETER, started(ACCELEROMETER))
+            .with(GYROSCOPE, started(GYROSCOPE));
+        Reckoning { ports: [empty.clone(), empty], settings, values }
+    }
+
+    /// "then each feed's port, chunk and length of room, and nothing of the program's answers or records."
+    pub fn feed(&mut self, port: u8, chunk: &[u8], room_length: usize) -> Reckoned {
+        // "A feed that the table below refuses with 16 or 18 gets the first of them that applies, no reply and no save,
+        // takes and skips 0 bytes and changes nothing."
+        let refused = |number| Reckoned { number, taken: 0, skipped: 0, saved: false, reply: Vec::new() };
+        if port != 0 && port != 1 {
+            return refused(number::PORT);
+        }
+        if room_length < 16 {
+            return refused(number::ROOM);
+        }
+
+        // "Otherwise it is accepted:"
+        let stream = &mut self.ports[usize::from(port)];
+        let skipped_before = stream.standing().skipped;
+
+        // "Take the shortest beginning of the chunk, the empty one too, with which the scan of all that port's bytes
+        // finds more than n messages, good and damaged."
+        for taken in 0..=chunk.len() {
+            let mut all = stream.taken.clone();
+            all.extend_from_slice(&chunk[..taken]);
+            let found: Vec<(usize, usize)> = scan(&all).iter().filter_map(Event::message).collect();
+            if found.len() > stream.n {
+                // "Message n + 1 is handled as above on the values kept; its reply and save mark are the feed's, the
+                // number is 0, and n grows by one."
+                let (place, length) = found[stream.n];
+                let handled = handle(&all[place..place + length], self.settings, self.values);
+                self.settings = handled.settings;
+                self.values = handled.values;
+                stream.taken = all;
+                stream.n += 1;
+                stream.last = number::DONE;
+                // "Bytes skipped are those that the scan skipped since that port's last accepted feed;"
+                let skipped = stream.standing().skipped - skipped_before;
+                let reply = handled.reply;
+                return Reckoned { number: number::DONE, taken, skipped, saved: handled.saved, reply };
+            }
+        }
+
+        // "If no beginning does that, take the whole chunk: number 1, no reply, no save."
+        stream.taken.extend_from_slice(chunk);
+        stream.last = number::USED_UP;
+        let skipped = stream.standing().skipped - skipped_before;
+        Reckoned { number: number::USED_UP, taken: chunk.len(), skipped, saved: false, reply: Vec::new() }
+    }
+
+    pub fn settings(&self) -> Settings {
+        self.settings
+    }
+
+    /// "held are the bytes from there on." The port is 0 or 1.
+    pub fn held(&self, port: u8) -> Vec<u8> {
+        let stream = &self.ports[usize::from(port)];
+        stream.taken[stream.standing().place..].to_vec()
+    }
+
+    /// "The page is the writing of its values, blank with none."
+    pub fn page(&self) -> [u8; 64] {
+        write_page(&self.values)
+    }
+}

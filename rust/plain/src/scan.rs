@@ -1,0 +1,79 @@
+//! The scan of a whole stream (01-013 to 01-018), as the plain reckoning uses it.
+
+use crate::message::sums_right;
+
+/// What the scan does at one place.
+#[derive(Clone, Copy, Debug, PartialEq, Eq)]
+pub enum Event {
+    /// "one byte is skipped"
+    Skipped { place: usize },
+    /// "a good message, and reading goes on after its last byte"
+    Good { place: usize, length: usize },
+    /// "a damaged message is reported and one byte is skipped"
+    Damaged { place: usize, length: usize },
+}
+
+impl Event {
+    /// Where reading goes on.
+    pub fn after(&self) -> usize {
+        match *self {
+            Event::Skipped { place } => place + 1,
+            Event::Good { place, length } => place + length,
+            Event::Damaged { place, .. } => place + 1,
+        }
+    }
+
+    /// Bytes skipped: the one of a damaged message too.
+    pub fn skipped(&self) -> usize {
+        match self {
+            Event::Skipped { .. } => 1,
+            Event::Good { .. } => 0,
+            Event::Damaged { .. } => 1,
+        }
+    }
+
+    /// The place and the length of a message, good or damaged.
+    pub fn message(&self) -> Option<(usize, usize)> {
+        match *self {
+            Event::Skipped { .. } => None,
+            Event::Good { place, length } | Event::Damaged { place, length } => Some((place, length)),
+        }
+    }
+}
+
+/// Everything that the scan does on these bytes, until it is undecided or nothing is left.
+pub fn scan(bytes: &[u8]) -> Vec<Event> {
+    let mut events = Vec::new();
+    let mut place = 0;
+    // "At the front of what is unread:"
+    while place < bytes.len() {
+        let unread = &bytes[place..];
+
+        // "the first byte is not A5, or a second byte is there and is not A5: one byte is skipped;"
+        if unread[0] != 0xA5 || (unread.len() >= 2 && unread[1] != 0xA5) {
+            events.push(Event::Skipped { place });
+            place += 1;
+            continue;
+        }
+
+        // "otherwise, until L + 6 bytes are there, it is undecided;"
+        if unread.len() < 4 {
+            break;
+        }
+        let length = usize::from(unread[3]) + 6;
+        if unread.len() < length {
+            break;
+        }
+
+        if sums_right(&unread[..length]) {
+            // "sums right: a good message, and reading goes on after its last byte;"
+            events.push(Event::Good { place, length });
+            place += length;
+        } else {
+            // "sums wrong: a damaged message is reported and one byte is skipped."
+            events.push(Event::Damaged { place, length });
+            place += 1;
+        }
+    }
+    events
+}

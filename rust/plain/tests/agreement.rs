@@ -1,0 +1,193 @@
+//! The feed, folded from starting, and the plain reckoning agree on generated lists; and the feed agrees with a third,
+//! shorter reading on boards of any contents.
+//!
+//! `LISTS`, `FEEDS` and `SEED` in the environment change how much is run and from where.
+
+mod common;
+
+use common::Both;
+use plain::generate::{self, Call, Rng};
+use plain::*;
+
+fn setting(name: &str, otherwise: u64) -> u64 {
+    match std::env::var(name) {
+        Ok(text) => text.parse().expect("a number"),
+        Err(_) => otherwise,
+    }
+}
+
+/// Runs a list on both. Also the law of 01-025: "Over any run from a fresh port, bytes taken on it = lengths of its
+/// good messages + bytes the scan skipped + bytes held."
+fn run(page: &[u8], list: &[Call]) -> Result<(), String> {
+    let mut both = Both::new(page);
+    let mut taken = [0; 2];
+    let mut skipped = [0; 2];
+    let mut good = [0; 2];
+    let mut streams = [Vec::new(), Vec::new()];
+    for (place, call) in list.iter().enumerate() {
+        let held_before = both.board.ports.map(|port| port.held);
+        let settings_before = both.board.settings;
+        let page_before = both.page.clone();
+        let answer =
+            both.try_feed(call.port, &call.chunk, call.room).map_err(|text| format!("feed {place}: {text}"))?;
+        if answer.number > 1 {
+            common::same("page of a refusal", &both.page, &page_before)?;
+            common::same("settings of a refusal", &both.board.settings, &settings_before)?;
+            continue;
+        }
+        let port = usize::from(call.port);
+        taken[port] += answer.taken;
+        skipped[port] += answer.skipped;
+        streams[port].extend_from_slice(&call.chunk[..answer.taken]);
+        good[port] += held_before[port] + answer.taken - answer.skipped - both.held(port);
+        if answer.number == 1 {
+            common::same("taken with 1", &answer.taken, &call.chunk.len())?;
+        }
+        if !answer.saved {
+            common::same("page of a feed that saves nothing", &both.page, &page_before)?;
+        }
+        common::same("page", &check_page(&both.page), &0)?;
+    }
+    both.compare_state()?;
+    for port in 0..2 {
+        let mut lengths = 0;
+        let mut at = 0;
+        for event in scan(&streams[port]) {
+            if at + both.held(port) == streams[port].len() {
+                break;
+            }
+            at = event.after();
+            if let Event::Good { length, .. } = event {
+                lengths += length;
+            }
+        }
+        common::same("lengths of good messages", &good[port], &lengths)?;
+        common::same("the law", &taken[port], &(lengths + skipped[port] + both.held(port)))?;
+    }
+    Ok(())
+}
+
+#[test]
+fn feed_and_reckoning() {
+    let seed = setting("SEED", 0);
+    for place in 0..setting("LISTS", 6000) {
+        let mut rng = Rng::new(seed.wrapping_add(place).wrapping_mul(0x2545_F491_4F6C_DD1D));
+        let page = generate::sound_page(&mut rng);
+        let pieces = if rng.chance(1, 10) { 12 } else { 5 };
+        let list = generate::any_calls(&mut rng, &page, pieces);
+        if let Err(text) = run(&page, &list) {
+            let short = generate::shrink(&list, |list| run(&page, list).is_err());
+            let why = run(&page, &short).unwrap_err();
+            panic!("list {place}: {text}\npage {page:02X?}\nshortest {short:02X?}\n{why}");
+        }
+    }
+}
+
+/// What a feed gives on a sound board, in another way: the first message of the scan of the held bytes and the chunk in
+/// one row.
+fn in_one_row(port: u8, board: &Board, chunk: &[u8], room: &mut [u8], page: &mut [u8]) -> Fed {
+    let record = &board.ports[usize::from(port)];
+    let row = [&record.bytes[..record.held], chunk].concat();
+    let mut fed = Fed { number: 1, taken: chunk.len(), skipped: 0, saved: false, board: *board };
+    let mut at = 0;
+    let mut end = row.len();
+    for event in scan(&row) {
+        at = event.after();
+        fed.skipped += event.skipped();
+        if let Some((place, length)) = event.message() {
+            end = (place + length).max(record.held);
+            fed.number = 0;
+            fed.taken = end - record.held;
+            let handled = handle(&row[place..place + length], board.settings, values(page).unwrap());
+            fed.saved = handled.saved;
+            fed.board.settings = handled.settings;
+            room[..handled.reply.len()].copy_from_slice(&handled.reply);
+            page.copy_from_slice(&write_page(&handled.values));
+            break;
+        }
+    }
+    let mut after = Port::fresh();
+    after.held = end - at;
+    after.bytes[..end - at].copy_from_slice(&row[at..end]);
+    fed.board.ports[usize::from(port)] = after;
+    fed
+}
+
+#[test]
+fn boards_of_any_contents() {
+    let mut rng = Rng::new(setting("SEED", 0) ^ 0xB0A2D);
+    let mut numbers = [0; 32];
+    for _ in 0..setting("FEEDS", 400_000) {
+        let port = generate::port(&mut rng);
+        let board = generate::board(&mut rng);
+        let pieces = rng.below(4);
+        let mut chunk = generate::stream(&mut rng, pieces);
+        let most = generate::chunk_length(&mut rng);
+        chunk.truncate(most);
+        let mut room = vec![0x77; generate::room(&mut rng)];
+        let mut page = generate::page(&mut rng);
+        let (given_room, given_page) = (room.clone(), page.clone());
+        let fed = feed(port, &board, &chunk, &mut room, &mut page);
+        numbers[usize::from(fed.number)] += 1;
+
+        let over = board.ports[0].held > 260 || board.ports[1].held > 260;
+        let expected = if port > 1 {
+            16
+        } else if over || !board.settings.allowed() {
+            17
+        } else if room.len() < 16 {
+            18
+        } else {
+            check_page(&given_page)
+        };
+        let (mut other_room, mut other_page) = (given_room, given_page);
+        let other = if expected == 0 {
+            in_one_row(port, &board, &chunk, &mut other_room, &mut other_page)
+        } else {
+            Fed { number: expected, taken: 0, skipped: 0, saved: false, board }
+        };
+        assert_eq!(fed, other, "port {port}, board {board:02X?}, chunk {chunk:02X?}");
+        assert_eq!(room, other_room);
+        assert_eq!(page, other_page);
+    }
+    for number in [0, 1, 16, 17, 18, 19, 20] {
+        assert!(numbers[number] > 100, "number {number} came {} times", numbers[number]);
+    }
+}
+
+/// "It is one claim about the whole list": however a stream is cut, what is taken, reported and kept is the same.
+#[test]
+fn cutting_changes_nothing() {
+    let mut rng = Rng::new(setting("SEED", 0) ^ 0xC07);
+    for _ in 0..2000 {
+        let page = generate::sound_page(&mut rng);
+        let stream = generate::stream(&mut rng, 8);
+        let all = |chunks: Vec<Vec<u8>>| {
+            let mut page = page;
+            let (_, mut board) = start(&page);
+            let mut replies = Vec::new();
+            let mut skipped = 0;
+            for chunk in chunks {
+                let mut rest = &chunk[..];
+                loop {
+                    let mut room = [0; 16];
+                    let fed = feed(1, &board, rest, &mut room, &mut page);
+                    rest = &rest[fed.taken..];
+                    skipped += fed.skipped;
+                    board = fed.board;
+                    if fed.number != 0 {
+                        assert_eq!(fed.number, 1);
+                        break;
+                    }
+                    replies.push((room, fed.saved));
+                }
+            }
+            (board, page, replies, skipped)
+        };
+        let whole = all(vec![stream.clone()]);
+        assert_eq!(all(generate::cut(&mut rng, &stream)), whole);
+        assert_eq!(all(stream.iter().map(|&byte| vec![byte]).collect()), whole);
+        let messages = scan(&stream).iter().filter(|event| event.message().is_some()).count();
+        assert_eq!(whole.2.len(), messages);
+    }
+}

@@ -1,0 +1,173 @@
+//! The generated material: what must come does come, and a failing list is shrunk.
+
+mod common;
+
+use common::Both;
+use plain::generate::{self, Call, Rng};
+use plain::*;
+use std::collections::BTreeSet;
+
+/// Same seed, same material.
+#[test]
+fn seeded() {
+    let page = [0xFF; 64];
+    let list = |seed| generate::any_calls(&mut Rng::new(seed), &page, 8);
+    assert_eq!(list(7), list(7));
+    assert_ne!(list(7), list(8));
+    // The first words of splitmix64 from 0.
+    let mut rng = Rng::new(0);
+    assert_eq!([rng.word(), rng.word()], [0xE220_A839_7B1D_CDAF, 0x6E78_9E6A_A1B9_65F4]);
+}
+
+#[test]
+fn cut_and_joined() {
+    let mut rng = Rng::new(2);
+    let mut empty = 0;
+    for _ in 0..2000 {
+        let stream = generate::stream(&mut rng, 5);
+        let chunks = generate::cut(&mut rng, &stream);
+        assert_eq!(chunks.concat(), stream);
+        empty += chunks.iter().filter(|chunk| chunk.is_empty()).count();
+    }
+    assert!(empty > 500);
+}
+
+/// All lengths, types, errors, and each function under each code, accepted, come in the messages.
+#[test]
+fn messages_reach_everything() {
+    let mut rng = Rng::new(3);
+    let mut lengths = BTreeSet::new();
+    let mut errors = BTreeSet::new();
+    let mut accepted = BTreeSet::new();
+    let mut kinds = BTreeSet::new();
+    let mut damaged = 0;
+    for _ in 0..200_000 {
+        let good = generate::any_good(&mut rng);
+        assert_eq!(check_message(&good), 0);
+        lengths.insert(good[3]);
+        kinds.insert(good[2]);
+        errors.insert((good[2].min(3), error_of(&good)));
+        if error_of(&good) == 0 && good[2] == 0x02 {
+            accepted.insert((good[4], good[6], good[5] > 1));
+        }
+        let other = generate::damaged(&mut rng);
+        if check_message(&other) == 22 {
+            damaged += 1;
+            assert_eq!(error_of(&other), 1);
+        }
+    }
+    assert_eq!(lengths.len(), 256);
+    assert_eq!(kinds.len(), 256);
+    for expected in [(0, 2), (1, 0), (1, 3), (1, 4), (2, 0), (2, 3), (2, 4), (3, 2)] {
+        assert!(errors.contains(&expected), "{expected:?}");
+    }
+    // Function 1 with its value, 2 to 5 with and without, under three codes.
+    assert_eq!(accepted.len(), 3 * (1 + 2 * 4));
+    assert!(damaged > 20_000, "{damaged}");
+}
+
+/// Lists reach all numbers, errors, saves, messages within damaged ones, and many held bytes.
+#[test]
+fn lists_reach_everything() {
+    let mut rng = Rng::new(4);
+    let mut numbers = [0; 32];
+    let mut errors = [0; 5];
+    let mut saves = 0;
+    let mut from_held = 0;
+    let mut most_held = 0;
+    let mut reports = 0;
+    for _ in 0..3000 {
+        let mut page = generate::sound_page(&mut rng);
+        let list = generate::any_calls(&mut rng, &page, 8);
+        let (_, mut board) = start(&page);
+        for call in list {
+            let mut room = vec![0; call.room];
+            let fed = feed(call.port, &board, &call.chunk, &mut room, &mut page);
+            board = fed.board;
+            numbers[usize::from(fed.number)] += 1;
+            if fed.number == 0 {
+                errors[usize::from(room[7])] += 1;
+                saves += usize::from(fed.saved);
+                from_held += usize::from(fed.taken == 0);
+                reports += usize::from(room[3] > 4);
+            }
+            most_held = most_held.max(board.ports[0].held);
+        }
+    }
+    assert!([0, 1, 16, 18].iter().all(|&number| numbers[number] > 1000), "{numbers:?}");
+    assert!(errors.iter().all(|&count| count > 500), "{errors:?}");
+    assert!(saves > 400 && from_held > 400 && reports > 400, "{saves} {from_held} {reports}");
+    assert!(most_held > 255, "{most_held}");
+}
+
+/// A made-up fault: after a save on port 1, a report on port 0.
+fn fails(list: &[Call]) -> bool {
+    let mut page = [0xFF; 64];
+    let (_, mut board) = start(&page);
+    let mut saved = false;
+    for call in list {
+        let mut room = vec![0; call.room];
+        let fed = feed(call.port, &board, &call.chunk, &mut room, &mut page);
+        board = fed.board;
+        if fed.number == 0 {
+            saved |= fed.saved && call.port == 1;
+            if saved && call.port == 0 && room[3] > 4 {
+                return true;
+            }
+        }
+    }
+    false
+}
+
+#[test]
+fn shrinking() {
+    let mut shrunk = 0;
+    let mut shortest = 0;
+    for seed in 0..500 {
+        let mut rng = Rng::new(seed);
+        let list = generate::any_calls(&mut rng, &[0xFF; 64], 20);
+        let short = generate::shrink(&list, fails);
+        if !fails(&list) {
+            assert_eq!(short, list);
+            continue;
+        }
+        shrunk += 1;
+        assert!(fails(&short));
+        // No feed and no byte can be dropped.
+        for place in 0..short.len() {
+            let mut fewer = short.clone();
+            fewer.remove(place);
+            assert!(!fails(&fewer));
+            for at in 0..short[place].chunk.len() {
+                let mut shorter = short.clone();
+                shorter[place].chunk.remove(at);
+                assert!(!fails(&shorter));
+            }
+        }
+        // Mostly two messages of 9 bytes, or with a value of up to four that is not looked at.
+        let bytes: usize = short.iter().map(|call| call.chunk.len()).sum();
+        shortest += usize::from((18..=26).contains(&bytes));
+    }
+    assert!(shrunk > 20 && shortest * 10 > shrunk * 8, "{shortest} of {shrunk}");
+}
+
+/// A list may begin with any page that starting accepts.
+#[test]
+fn any_page() {
+    let mut rng = Rng::new(5);
+    let mut accepted = 0;
+    for _ in 0..300 {
+        let page = generate::page(&mut rng);
+        let list = generate::any_calls(&mut rng, &page, 3);
+        if start(&page).0 != 0 {
+            continue;
+        }
+        accepted += 1;
+        let mut both = Both::new(&page);
+        for call in list {
+            both.try_feed(call.port, &call.chunk, call.room).unwrap();
+        }
+        both.compare_state().unwrap();
+    }
+    assert!(accepted > 50);
+}

@@ -1,0 +1,95 @@
+//! The start-up page.
+
+mod common;
+
+use common::page_of;
+use plain::generate::{self, Rng, BAUDS};
+use plain::*;
+
+/// The writings of all allowed values: 7 times 5 times 8.
+fn writings() -> Vec<(Values, [u8; 64])> {
+    let bauds = [None].into_iter().chain(BAUDS.map(Some));
+    let mut all = Vec::new();
+    for baud in bauds {
+        for accelerometer in [None, Some(1), Some(2), Some(3), Some(4)] {
+            for gyroscope in [None, Some(1), Some(2), Some(3), Some(4), Some(5), Some(6), Some(7)] {
+                let values = Values { baud, accelerometer, gyroscope };
+                all.push((values, write_page(&values)));
+            }
+        }
+    }
+    all
+}
+
+/// "Sound: blank, or exactly the writing of some allowed values": read and compared, and searched for among all.
+#[test]
+fn sound_is_a_writing() {
+    let all = writings();
+    assert_eq!(all.len(), 280);
+    for (written, page) in &all {
+        assert_eq!(values(page), Some(*written));
+        assert_eq!(read_values(page), *written);
+        let (number, board) = start(page);
+        assert_eq!(number, 0);
+        let expected = Settings {
+            baud: written.baud.unwrap_or(115200),
+            accelerometer: written.accelerometer.unwrap_or(2),
+            gyroscope: written.gyroscope.unwrap_or(3),
+        };
+        assert_eq!(board, Board { ports: [Port::fresh(), Port::fresh()], settings: expected });
+    }
+    let mut rng = Rng::new(64);
+    let mut numbers = [0; 32];
+    for _ in 0..60_000 {
+        let page = generate::page(&mut rng);
+        let found = all.iter().find(|(_, writing)| writing[..] == page[..]);
+        let expected = match found {
+            _ if page.len() != 64 => 19,
+            Some(_) => 0,
+            None => 20,
+        };
+        assert_eq!(check_page(&page), expected, "{page:02X?}");
+        assert_eq!(values(&page), found.map(|(values, _)| *values));
+        numbers[usize::from(expected)] += 1;
+    }
+    assert!([0, 19, 20].iter().all(|&number| numbers[number] > 1000), "{numbers:?}");
+}
+
+#[test]
+fn factory() {
+    assert_eq!(factory_page()[..], page_of("03 010A04 070E01 080F01 0001C200 02 03"));
+    assert_eq!(start(&factory_page()).1.settings, FACTORY);
+    assert_eq!(write_page(&Values::default()), [0xFF; 64]);
+}
+
+/// "take the body from the page if it has the entry, else from the factory page"
+#[test]
+fn lookup() {
+    let factory = factory_page();
+    let blank = [0xFF; 64];
+    let saved = page_of("02 010704 080B01 000E1000 07");
+    assert_eq!(body(&saved, &factory, 0x01), [0x00, 0x0E, 0x10, 0x00]);
+    assert_eq!(body(&saved, &factory, 0x07), [0x02]);
+    assert_eq!(body(&saved, &factory, 0x08), [0x07]);
+    assert_eq!(body(&blank, &factory, 0x01), [0x00, 0x01, 0xC2, 0x00]);
+    assert_eq!(body(&saved, &blank, 0x07), []);
+    assert_eq!(body(&saved, &factory, 0x02), []);
+
+    // Any bytes, as decided.
+    assert_eq!(body(&saved[..63], &factory, 0x08), [0x03]);
+    assert_eq!(body(&page_of("04 080401 07"), &factory, 0x08), [0x03]);
+    assert_eq!(body(&page_of("00 080401 07"), &factory, 0x08), [0x03]);
+    assert_eq!(body(&page_of("01 083F01"), &factory, 0x08), [0xFF]);
+    assert_eq!(body(&page_of("01 084000"), &factory, 0x08), []);
+    assert_eq!(body(&page_of("01 083F02"), &factory, 0x08), []);
+    assert_eq!(body(&page_of("01 08FFFF"), &factory, 0x08), []);
+    assert_eq!(body(&page_of("01 080003"), &factory, 0x08), [0x01, 0x08, 0x00]);
+    assert_eq!(body(&page_of("02 080701 080801 05 06"), &factory, 0x08), [0x05]);
+    // The part is one of the page itself.
+    assert!(std::ptr::eq(body(&saved, &factory, 0x08).as_ptr(), &saved[11]));
+    assert!(std::ptr::eq(body(&saved, &factory, 0x07).as_ptr(), &factory[14]));
+
+    assert_eq!(read_values(&page_of("01 080402 0706")), Values::default());
+    assert_eq!(read_values(&page_of("01 080401 09")).gyroscope, Some(9));
+    assert!(!allowed_values(&read_values(&page_of("01 080401 09"))));
+}

@@ -1,0 +1,233 @@
+//! The readers and the writers.
+
+mod common;
+
+use common::hex;
+use plain::generate::{self, Rng};
+use plain::*;
+
+/// Every code, function and value that matters: what is written is accepted by the board, what is refused is not.
+#[test]
+fn command_writer() {
+    let mut rng = Rng::new(28);
+    for code in 0..=255u8 {
+        for function in (0..=8).chain([0x81, 255]) {
+            for turn in 0..24 {
+                let value = if turn < 12 { turn } else { generate::value(&mut rng, code) };
+                let size = value_size(code).unwrap_or(0);
+                let payload = match (code, function) {
+                    (0x02, _) => Some(vec![0x02, 0]),
+                    (0x01 | 0x07 | 0x08, 1) if allowed(code, value) => {
+                        Some([&[code, 1 + size as u8, 1], &value.to_be_bytes()[4 - size..]].concat())
+                    }
+                    (0x01 | 0x07 | 0x08, 2..=5) => Some(vec![code, 1, function]),
+                    _ => None,
+                };
+                let length = rng.below(20);
+                let mut room = vec![0x33; length];
+                let answer = write_command(code, function, value, &mut room);
+                let mut expected_room = vec![0x33; length];
+                match payload {
+                    None => assert_eq!(answer, (28, 0)),
+                    Some(payload) => {
+                        let written = message(if code == 0x02 { 0x01 } else { 0x02 }, &payload);
+                        assert_eq!(error_of(&written), 0);
+                        if length < written.len() {
+                            assert_eq!(answer, (18, 0));
+                        } else {
+                            assert_eq!(answer, (0, written.len()));
+                            expected_room[..written.len()].copy_from_slice(&written);
+                        }
+                    }
+                }
+                assert_eq!(room, expected_room);
+            }
+        }
+    }
+    // A range over 255 is none of the allowed ones, and 28 comes before 18.
+    assert_eq!(write_command(0x08, 1, 0x103, &mut []), (28, 0));
+    assert_eq!(write_command(0x08, 1, 0x003, &mut []), (18, 0));
+}
+
+#[test]
+fn plain_writer() {
+    let mut rng = Rng::new(26);
+    for length in 0..=300 {
+        let payload = rng.bytes(length);
+        let kind = rng.byte();
+        for room_length in [0, length, length + 5, length + 6, length + 7] {
+            let mut room = vec![0x44; room_length];
+            let answer = write_message(kind, &payload, &mut room);
+            if length > 255 {
+                assert_eq!(answer, (26, 0));
+            } else if room_length < length + 6 {
+                assert_eq!(answer, (18, 0));
+            } else {
+                assert_eq!(answer, (0, length + 6));
+                assert_eq!(check_message(&room[..length + 6]), 0);
+                assert_eq!(room[2], kind);
+                assert_eq!(room[4..4 + length], payload);
+            }
+            assert!(room[answer.1..].iter().all(|&byte| byte == 0x44));
+        }
+    }
+}
+
+#[test]
+fn whole_messages() {
+    let ping = hex(common::P1);
+    assert_eq!(check_message(&ping), 0);
+    for end in 0..8 {
+        assert_eq!(check_message(&ping[..end]), 21);
+    }
+    assert_eq!(check_message(&[&ping[..], &[0]].concat()), 21);
+    for (at, expected) in [(0, 21), (1, 21), (2, 22), (3, 21), (4, 22), (5, 22), (6, 22), (7, 22)] {
+        let mut other = ping.clone();
+        other[at] ^= 0x10;
+        assert_eq!(check_message(&other), expected);
+    }
+}
+
+/// "the reply reader accepts exactly" what is the writing of a reply.
+#[test]
+fn reply_reader() {
+    let nothing = |number| Reply { number, kind: 0, echo: 0, error: 0, value: None };
+    let read = |kind: u8, text: &str| read_reply(&message(kind, &hex(text)));
+    let reply = |kind, echo, error, value| Reply { number: 0, kind, echo, error, value };
+
+    assert_eq!(read_reply(&hex(common::P1_REPLY)), reply(1, 2, 0, None));
+    assert_eq!(read_reply(&hex("A5A5020780020800080103E9A4")), reply(2, 8, 0, Some(3)));
+    assert_eq!(read_reply(&hex("A5A5A5048002020178A8")), reply(0xA5, 2, 1, None));
+    assert_eq!(read_reply(&[]), nothing(21));
+    assert_eq!(read_reply(&hex("A5A5A5048002020178A9")), nothing(22));
+
+    for error in 0..=255 {
+        let expected = if error <= 4 { reply(0x63, 9, error, None) } else { nothing(23) };
+        assert_eq!(read_reply(&message(0x63, &[0x80, 2, 9, error])), expected);
+    }
+    assert_eq!(read(2, "80020100 0104 0001C200"), reply(2, 1, 0, Some(115200)));
+    for (kind, text) in [
+        (1, ""),
+        (1, "80"),
+        (1, "8002"),
+        (1, "800202"),
+        (1, "80010200"),
+        (1, "81020200"),
+        (1, "8002020000"),
+        (2, "80020100 0104 0000E100"), // not allowed
+        (1, "80020100 0104 0001C200"), // type 01
+        (3, "80020100 0104 0001C200"), // type 03
+        (2, "80020104 0104 0001C200"), // error 4
+        (2, "80020100 0101 02"),       // not its value size
+        (2, "80020700 0801 02"),       // not the echo
+        (2, "80020700 0701 05"),       // not allowed
+        (2, "80020700 0701 0202"),     // something after it
+        (2, "80020700 0702 0202"),     // not its value size
+        (2, "80020700 0701"),          // cut off
+        (2, "80020700 07"),            // cut off
+        (2, "80020200 0200"),          // Ping has no value
+        (2, "80020200 0201 02"),       // Ping has no value
+        (2, "80020100 0104 0001C200 00"),
+        (2, "80020700 0701 02 0701 02"),
+    ] {
+        assert_eq!(read(kind, text), nothing(23), "{kind:02X} {text}");
+    }
+
+    // What the board replies is read.
+    let mut rng = Rng::new(80);
+    for _ in 0..20_000 {
+        let received = generate::any_good(&mut rng);
+        let settings = generate::allowed_settings(&mut rng);
+        let handled = handle(&received, settings, generate::values(&mut rng));
+        let read = read_reply(&handled.reply);
+        assert_eq!((read.number, read.kind, read.error), (0, received[2], handled.error));
+        assert_eq!(read.value.is_some(), handled.reply.len() > 10);
+    }
+}
+
+#[test]
+fn data_reader() {
+    let refused = Field::Unknown { code: 0, place: 0 };
+    let table_63 = hex("A5A5A21C810C37A7C5AC377BA8823F800065820C37A7C5AC377BA8823749539C0C23");
+    let acceleration = [0x37A7C5AC, 0x377BA882, 0x3F800065];
+    let rate = [0x37A7C5AC, 0x377BA882, 0x3749539C];
+    assert_eq!(read_field(&table_63, 0), (0, Field::Acceleration(acceleration)));
+    assert_eq!(read_field(&table_63, 1), (0, Field::Rate(rate)));
+    assert_eq!(read_field(&table_63, 2), (27, refused));
+    assert_eq!(read_field(&table_63, usize::MAX), (27, refused));
+    assert_eq!(field_data(&table_63, 0), &table_63[6..18]);
+    assert_eq!(field_data(&table_63, 1), &table_63[20..32]);
+    assert!(std::ptr::eq(field_data(&table_63, 1).as_ptr(), &table_63[20]));
+    assert_eq!(field_data(&table_63, 2), []);
+    let mut room = [0x11; 40];
+    assert_eq!(write_data(acceleration, rate, &mut room), (0, 34));
+    assert_eq!(room[..34], table_63);
+    assert_eq!(room[34..], [0x11; 6]);
+    let mut room = [0x11; 33];
+    assert_eq!(write_data(acceleration, rate, &mut room), (18, 0));
+    assert_eq!(room, [0x11; 33]);
+
+    // A temperature of 003 is an unknown field here.
+    let table_69 = hex("A5A5A2068604000003FD7CB4");
+    assert_eq!(read_field(&table_69, 0), (0, Field::Unknown { code: 0x86, place: 6 }));
+    assert_eq!(field_data(&table_69, 0), hex("000003FD"));
+
+    let data = |text: &str| message(0xA2, &hex(text));
+    for (bytes, k, expected) in [
+        (vec![], 0, 21),
+        (table_63[..33].to_vec(), 0, 21),
+        (hex("A5A5A20E880C410944c000000000072F00081A32"), 0, 22),
+        (message(0xA1, &[]), 0, 23),
+        (message(0x02, &[0x81, 1]), 0, 23),
+        (data(""), 0, 27),
+        (data("81"), 0, 24),
+        (data("8101"), 0, 24),
+        (data("8100"), 0, 25),
+        (data("8000"), 1, 27),
+        (data("8000 81"), 0, 24),
+        (data("8100 80"), 0, 24), // 24 of the whole payload before 25 of any field
+        (data("8000 820B 0000000000000000000000"), 0, 25), // also where another field is asked for
+        (data("8000 820B 0000000000000000000000"), 9, 25), // and before 27
+        (data("820D 00000000000000000000000000"), 0, 25),
+    ] {
+        assert_eq!(read_field(&bytes, k), (expected, refused), "{bytes:02X?}");
+        assert_eq!(field_data(&bytes, k), []);
+    }
+    let two = data("8000 8303 010203");
+    assert_eq!(read_field(&two, 0), (0, Field::Unknown { code: 0x80, place: 6 }));
+    assert_eq!(read_field(&two, 1), (0, Field::Unknown { code: 0x83, place: 8 }));
+    assert_eq!(field_data(&two, 0), []);
+    assert_eq!(field_data(&two, 1), [1, 2, 3]);
+}
+
+/// "what it writes is read back, and a message that reads as exactly these two fields is written back to the same
+/// bytes"
+#[test]
+fn data_round() {
+    let mut rng = Rng::new(0xA2);
+    let mut two_fields = 0;
+    let mut numbers = [0; 32];
+    for _ in 0..100_000 {
+        let acceleration = [0; 3].map(|_| generate::bits(&mut rng));
+        let rate = [0; 3].map(|_| generate::bits(&mut rng));
+        let mut room = [0; 34];
+        assert_eq!(write_data(acceleration, rate, &mut room), (0, 34));
+        assert_eq!(read_field(&room, 0), (0, Field::Acceleration(acceleration)));
+        assert_eq!(read_field(&room, 1), (0, Field::Rate(rate)));
+        assert_eq!(read_field(&room, 2).0, 27);
+
+        let other = generate::data(&mut rng);
+        numbers[usize::from(read_field(&other, 1).0)] += 1;
+        let fields = [read_field(&other, 0).1, read_field(&other, 1).1];
+        if let [Field::Acceleration(acceleration), Field::Rate(rate)] = fields {
+            if read_field(&other, 2).0 == 27 {
+                let mut room = [0; 34];
+                write_data(acceleration, rate, &mut room);
+                assert_eq!(room[..], other[..]);
+                two_fields += 1;
+            }
+        }
+    }
+    assert!(two_fields > 100, "{two_fields}");
+    assert!([0, 23, 24, 25, 27].iter().all(|&number| numbers[number] > 100), "{numbers:?}");
+}
