@@ -1,0 +1,179 @@
+//! The board: starting and feeding.
+
+use crate::ffi;
+use crate::refusal::{done_or_refused, refusal_of, Refusal};
+
+/// The bytes that a port holds: the first `held` of the array, of an undecided message or not yet looked at.
+///
+/// After an accepted feed the bytes past them are zero.
+#[derive(Clone, Copy, Debug, PartialEq, Eq)]
+#[repr(C)]
+pub struct Port {
+    /// The held bytes, and the room past them.
+    pub bytes: [u8; Port::ROOM],
+    /// How many are held.
+    pub held: usize,
+}
+
+impl Port {
+    /// The most bytes that a port holds.
+    pub const ROOM: usize = 260;
+    /// The longest message.
+    pub const LONGEST: usize = Port::ROOM + 1;
+
+    /// A port that holds nothing.
+    pub const fn new() -> Port {
+        Port { bytes: [0; Port::ROOM], held: 0 }
+    }
+}
+
+impl Default for Port {
+    fn default() -> Port {
+        Port::new()
+    }
+}
+
+/// The working values.
+#[derive(Clone, Copy, Debug, PartialEq, Eq)]
+#[repr(C)]
+pub struct Settings {
+    /// One of 9600, 19200, 115200, 230400, 460800, 921600.
+    pub baud: u32,
+    /// The code of the accelerometer's range, 1 to 4.
+    pub accelerometer: u8,
+    /// The code of the gyroscope's range, 1 to 7.
+    pub gyroscope: u8,
+}
+
+/// The board's state between two feeds: two ports and the working values.
+///
+/// It is plain data, to be kept, copied and sent as one likes. A board whose fields were set to what no board has is
+/// refused by the next feed ([`Refusal::Unsound`]).
+#[derive(Clone, Copy, Debug, PartialEq, Eq)]
+#[repr(C)]
+pub struct Board {
+    /// Port 0.
+    pub first: Port,
+    /// Port 1.
+    pub second: Port,
+    /// The working values.
+    pub settings: Settings,
+}
+
+/// What an accepted feed did.
+#[derive(Clone, Copy, Debug, PartialEq, Eq)]
+pub enum Outcome {
+    /// A message was reported, good or damaged, and its reply was written. What is left of the chunk is to be fed
+    /// again.
+    Reported {
+        /// Bytes taken from the front of the chunk.
+        taken: usize,
+        /// Bytes that the scan skipped.
+        skipped: usize,
+        /// Whether a save was accepted; the page has then been written.
+        saved: bool,
+        /// The length of the reply at the front of the room.
+        reply: usize,
+    },
+    /// The chunk is used up, and there is nothing more to report. Nothing was written.
+    UsedUp {
+        /// Bytes taken: the chunk's length.
+        taken: usize,
+        /// Bytes that the scan skipped.
+        skipped: usize,
+    },
+}
+
+impl Outcome {
+    /// Bytes taken from the front of the chunk.
+    pub fn taken(&self) -> usize {
+        match *self {
+            Outcome::Reported { taken, .. } | Outcome::UsedUp { taken, .. } => taken,
+        }
+    }
+
+    /// Bytes that the scan skipped.
+    pub fn skipped(&self) -> usize {
+        match *self {
+            Outcome::Reported { skipped, .. } | Outcome::UsedUp { skipped, .. } => skipped,
+        }
+    }
+}
+
+impl Board {
+    /// The longest reply, and the least room of a feed.
+    pub const REPLY: usize = 16;
+
+    /// Starts a board on the values that the page keeps, or the factory's where it keeps none.
+    ///
+    /// Refuses with [`Refusal::PageLength`] and [`Refusal::Page`].
+    ///
+    /// ```
+    /// use ketphiroj::{Board, Refusal};
+    ///
+    /// let board = Board::start(&[0xFF; 64])?;
+    /// assert_eq!(board.settings.baud, 115200);
+    /// assert_eq!(Board::start(&[0xFF; 63]), Err(Refusal::PageLength));
+    /// assert_eq!(Board::start(&[0x00; 64]), Err(Refusal::Page));
+    /// # Ok::<(), Refusal>(())
+    /// ```
+    pub fn start(page: &[u8]) -> Result<Board, Refusal> {
+        let started = ffi::start(page);
+        done_or_refused(started.number)?;
+        Ok(started.board)
+    }
+
+    /// Feeds a chunk to port 0 or 1: takes bytes up to the end of the first message, handles it and writes its reply to
+    /// the room's front, or takes the whole chunk where there is none. A save writes the page.
+    ///
+    /// Refuses with [`Refusal::Port`], [`Refusal::Unsound`], [`Refusal::Room`], [`Refusal::PageLength`] and
+    /// [`Refusal::Page`], the first that applies; the board is then as it was.
+    ///
+    /// A program feeds what is left of the chunk, the empty rest too, until the outcome is [`Outcome::UsedUp`]:
+    ///
+    /// ```
+    /// use ketphiroj::{Board, Outcome, Refusal};
+    ///
+    /// let mut page = [0xFF; 64];
+    /// let mut board = Board::start(&page)?;
+    /// let mut room = [0; Board::REPLY];
+    /// let mut replies = Vec::new();
+    ///
+    /// // A Ping with a wrong sum, then function 3 of the baud rate, which saves it.
+    /// let mut chunk: &[u8] = &[
+    ///     0xA5, 0xA5, 0x01, 0x02, 0x02, 0x00, 0x4F, 0x24, // error 1
+    ///     0xA5, 0xA5, 0x02, 0x03, 0x01, 0x01, 0x03, 0x54, 0x7F,
+    /// ];
+    /// loop {
+    ///     let outcome = board.feed(1, chunk, &mut room, &mut page)?;
+    ///     chunk = &chunk[outcome.taken()..];
+    ///     match outcome {
+    ///         Outcome::Reported { reply, saved, .. } => replies.push((room[..reply].to_vec(), saved)),
+    ///         Outcome::UsedUp { .. } => break,
+    ///     }
+    /// }
+    /// assert_eq!(replies.len(), 2);
+    /// assert_eq!(replies[0], (vec![0xA5, 0xA5, 0x01, 0x04, 0x80, 0x02, 0x02, 0x01, 0xD4, 0xD0], false));
+    /// assert!(replies[1].1);
+    /// assert_eq!(page[..8], [0x01, 0x01, 0x04, 0x04, 0x00, 0x01, 0xC2, 0x00]);
+    /// # Ok::<(), Refusal>(())
+    /// ```
+    pub fn feed(&mut self, port: u8, chunk: &[u8], room: &mut [u8], page: &mut [u8]) -> Result<Outcome, Refusal> {
+        let fed = ffi::feed(port, *self, chunk, room, page);
+        let (taken, skipped) = (fed.taken, fed.skipped);
+        match fed.number {
+            0 => {
+                *self = fed.board;
+                // A reply is a message: its length byte says how long it is.
+                let reply = usize::from(room[3]) + 6;
+                Ok(Outcome::Reported { taken, skipped, saved: fed.saved, reply })
+            }
+            1 => {
+                *self = fed.board;
+                Ok(Outcome::UsedUp { taken, skipped })
+            }
+            // The board that a refusal gives back is the one that it got.
+            number => Err(refusal_of(number)),
+        }
+    }
+}

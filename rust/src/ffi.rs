@@ -1,0 +1,283 @@
+//! The calls of the static library, one to one: numbers and records instead of results and enums.
+//!
+//! This is the only module with unsafe code. Its functions are safe: a slice is lent to the library as a pointer and a
+//! length for the time of the call, and the library's contracts hold for every input.
+//!
+//! What each call rests on: the archive that is linked is the one that `rt staticlib capi` writes, so the declarations
+//! below are those of its functions and records. It keeps no pointer, has no state of its own, ends, does not unwind,
+//! and touches no byte outside the slices that it is lent; Rattle proves that of every function. A `bool` in an answer
+//! is 0 or 1.
+
+#![allow(unsafe_code)]
+
+use crate::board::{Board, Settings};
+
+/// What starting answers. Where it is refused, the board has the factory settings and two fresh ports.
+#[derive(Clone, Copy, Debug, PartialEq, Eq)]
+#[repr(C)]
+pub struct Started {
+    /// 0, 19 or 20.
+    pub number: u8,
+    /// The board.
+    pub board: Board,
+}
+
+/// What a feed answers. Where it is refused, the counts are 0 and the board is the one given.
+#[derive(Clone, Copy, Debug, PartialEq, Eq)]
+#[repr(C)]
+pub struct Fed {
+    /// 0, 1, or 16 to 20.
+    pub number: u8,
+    /// Bytes taken from the chunk.
+    pub taken: usize,
+    /// Bytes that the scan skipped.
+    pub skipped: usize,
+    /// Whether a save was accepted.
+    pub saved: bool,
+    /// The new board.
+    pub board: Board,
+}
+
+/// What a writer answers.
+#[derive(Clone, Copy, Debug, PartialEq, Eq)]
+#[repr(C)]
+pub struct Written {
+    /// 0, or why it is refused.
+    pub number: u8,
+    /// The bytes written; 0 where it is refused.
+    pub length: usize,
+}
+
+/// What the reply reader answers; zeros where it refuses.
+#[derive(Clone, Copy, Debug, PartialEq, Eq)]
+#[repr(C)]
+pub struct FlatReply {
+    /// 0, or 21 to 23.
+    pub number: u8,
+    /// The type.
+    pub kind: u8,
+    /// The echo.
+    pub echo: u8,
+    /// The error.
+    pub error: u8,
+    /// Whether a value was reported.
+    pub has_value: bool,
+    /// The value; 0 where there is none.
+    pub value: u32,
+}
+
+/// What the data reader answers; zeros where it refuses.
+#[derive(Clone, Copy, Debug, PartialEq, Eq)]
+#[repr(C)]
+pub struct FlatField {
+    /// 0, 21 to 25, or 27.
+    pub number: u8,
+    /// The field's code.
+    pub code: u8,
+    /// The place of an unknown field's data in the message; 0 for 81 and 82.
+    pub place: usize,
+    /// The bits of X; 0 for an unknown field.
+    pub x: u32,
+    /// The bits of Y.
+    pub y: u32,
+    /// The bits of Z.
+    pub z: u32,
+}
+
+/// The values of a page. A value that is not there is 0 in an answer, and is not looked at in an argument.
+#[derive(Clone, Copy, Debug, Default, PartialEq, Eq)]
+#[repr(C)]
+pub struct FlatValues {
+    /// Whether there is one under code 01.
+    pub has_baud: bool,
+    /// The value under code 01.
+    pub baud: u32,
+    /// Whether there is one under code 07.
+    pub has_accelerometer: bool,
+    /// The value under code 07.
+    pub accelerometer: u32,
+    /// Whether there is one under code 08.
+    pub has_gyroscope: bool,
+    /// The value under code 08.
+    pub gyroscope: u32,
+}
+
+extern "C" {
+    fn ketphiroj_start(page: *const u8, page_length: usize) -> Started;
+    fn ketphiroj_feed(
+        port: u8,
+        board: Board,
+        chunk: *const u8,
+        chunk_length: usize,
+        room: *mut u8,
+        room_length: usize,
+        page: *mut u8,
+        page_length: usize,
+    ) -> Fed;
+    fn ketphiroj_check_message(message: *const u8, message_length: usize) -> u8;
+    fn ketphiroj_write_message(
+        kind: u8,
+        payload: *const u8,
+        payload_length: usize,
+        room: *mut u8,
+        room_length: usize,
+    ) -> Written;
+    fn ketphiroj_write_command(code: u8, function: u8, value: u32, room: *mut u8, room_length: usize) -> Written;
+    fn ketphiroj_read_reply(message: *const u8, message_length: usize) -> FlatReply;
+    fn ketphiroj_read_field(message: *const u8, message_length: usize, k: usize) -> FlatField;
+    fn ketphiroj_copy_field(
+        message: *const u8,
+        message_length: usize,
+        k: usize,
+        room: *mut u8,
+        room_length: usize,
+    ) -> Written;
+    fn ketphiroj_write_data(
+        ax: u32,
+        ay: u32,
+        az: u32,
+        rx: u32,
+        ry: u32,
+        rz: u32,
+        room: *mut u8,
+        room_length: usize,
+    ) -> Written;
+    fn ketphiroj_check_page(page: *const u8, page_length: usize) -> u8;
+    fn ketphiroj_read_page(page: *const u8, page_length: usize) -> FlatValues;
+    fn ketphiroj_write_page(values: FlatValues, page: *mut u8, page_length: usize) -> u8;
+    fn ketphiroj_copy_body(
+        saved: *const u8,
+        saved_length: usize,
+        factory: *const u8,
+        factory_length: usize,
+        code: u8,
+        room: *mut u8,
+        room_length: usize,
+    ) -> Written;
+    fn ketphiroj_factory_page(room: *mut u8, room_length: usize) -> Written;
+}
+
+/// Starts a board.
+pub fn start(page: &[u8]) -> Started {
+    // SAFETY: `page` is valid for reads of its length during the call.
+    unsafe { ketphiroj_start(page.as_ptr(), page.len()) }
+}
+
+/// Feeds a chunk to a port of a board, which may be of any contents.
+#[inline]
+pub fn feed(port: u8, board: Board, chunk: &[u8], room: &mut [u8], page: &mut [u8]) -> Fed {
+    // SAFETY: `chunk` is valid for reads of its length, `room` and `page` for reads and writes of theirs, and no two of
+    // them overlap, as their borrows say. The board goes by value.
+    unsafe {
+        ketphiroj_feed(
+            port,
+            board,
+            chunk.as_ptr(),
+            chunk.len(),
+            room.as_mut_ptr(),
+            room.len(),
+            page.as_mut_ptr(),
+            page.len(),
+        )
+    }
+}
+
+/// 0 for one whole message with right sums, else 21 or 22.
+pub fn check_message(message: &[u8]) -> u8 {
+    // SAFETY: `message` is valid for reads of its length during the call.
+    unsafe { ketphiroj_check_message(message.as_ptr(), message.len()) }
+}
+
+/// Writes the message of a type and a payload: 26, 18.
+pub fn write_message(kind: u8, payload: &[u8], room: &mut [u8]) -> Written {
+    // SAFETY: `payload` is valid for reads of its length and `room` for reads and writes of its own; they do not
+    // overlap.
+    unsafe { ketphiroj_write_message(kind, payload.as_ptr(), payload.len(), room.as_mut_ptr(), room.len()) }
+}
+
+/// Writes a command: 28, 18.
+pub fn write_command(code: u8, function: u8, value: u32, room: &mut [u8]) -> Written {
+    // SAFETY: `room` is valid for reads and writes of its length during the call.
+    unsafe { ketphiroj_write_command(code, function, value, room.as_mut_ptr(), room.len()) }
+}
+
+/// Reads a reply: 21 to 23.
+pub fn read_reply(message: &[u8]) -> FlatReply {
+    // SAFETY: `message` is valid for reads of its length during the call.
+    unsafe { ketphiroj_read_reply(message.as_ptr(), message.len()) }
+}
+
+/// Reads field `k` of a data message: 21 to 25, 27.
+pub fn read_field(message: &[u8], k: usize) -> FlatField {
+    // SAFETY: `message` is valid for reads of its length during the call.
+    unsafe { ketphiroj_read_field(message.as_ptr(), message.len(), k) }
+}
+
+/// Copies the data bytes of field `k` of a data message: 21 to 25, 27, then 18.
+pub fn copy_field(message: &[u8], k: usize, room: &mut [u8]) -> Written {
+    // SAFETY: `message` is valid for reads of its length and `room` for reads and writes of its own; they do not
+    // overlap.
+    unsafe { ketphiroj_copy_field(message.as_ptr(), message.len(), k, room.as_mut_ptr(), room.len()) }
+}
+
+/// Writes a data message of axes given as bits: 18.
+pub fn write_data(acceleration: [u32; 3], rate: [u32; 3], room: &mut [u8]) -> Written {
+    let [ax, ay, az] = acceleration;
+    let [rx, ry, rz] = rate;
+    // SAFETY: `room` is valid for reads and writes of its length during the call.
+    unsafe { ketphiroj_write_data(ax, ay, az, rx, ry, rz, room.as_mut_ptr(), room.len()) }
+}
+
+/// 0 for a blank or sound page, else 19 or 20.
+pub fn check_page(page: &[u8]) -> u8 {
+    // SAFETY: `page` is valid for reads of its length during the call.
+    unsafe { ketphiroj_check_page(page.as_ptr(), page.len()) }
+}
+
+/// The values that a page of any bytes keeps.
+pub fn read_page(page: &[u8]) -> FlatValues {
+    // SAFETY: `page` is valid for reads of its length during the call.
+    unsafe { ketphiroj_read_page(page.as_ptr(), page.len()) }
+}
+
+/// Writes the page anew: 19, 20.
+pub fn write_page(values: FlatValues, page: &mut [u8]) -> u8 {
+    // SAFETY: `page` is valid for reads and writes of its length during the call. The values go by value.
+    unsafe { ketphiroj_write_page(values, page.as_mut_ptr(), page.len()) }
+}
+
+/// Copies the body under a code, of the saved page or else of the factory page: 18.
+pub fn copy_body(saved: &[u8], factory: &[u8], code: u8, room: &mut [u8]) -> Written {
+    // SAFETY: `saved` and `factory` are valid for reads of their lengths, `room` for reads and writes of its own, and
+    // `room` overlaps neither.
+    unsafe {
+        ketphiroj_copy_body(
+            saved.as_ptr(),
+            saved.len(),
+            factory.as_ptr(),
+            factory.len(),
+            code,
+            room.as_mut_ptr(),
+            room.len(),
+        )
+    }
+}
+
+/// Writes the factory page: 18.
+pub fn factory_page(room: &mut [u8]) -> Written {
+    // SAFETY: `room` is valid for reads and writes of its length during the call.
+    unsafe { ketphiroj_factory_page(room.as_mut_ptr(), room.len()) }
+}
+
+/// The layouts that the library's records have on x86-64.
+const _: () = {
+    use std::mem::size_of;
+    assert!(size_of::<Settings>() == 8);
+    assert!(size_of::<Board>() == 552);
+    assert!(size_of::<Started>() == 560);
+    assert!(size_of::<Fed>() == 584);
+    assert!(size_of::<Written>() == 16);
+    assert!(size_of::<FlatReply>() == 12);
+    assert!(size_of::<FlatField>() == 32);
+    assert!(size_of::<FlatValues>() == 24);
+};

@@ -1,0 +1,49 @@
+//! A safe wrapper of the proved protocol library: an inertial board that speaks the MS CIP protocol on two serial
+//! ports.
+//!
+//! The library is written in Rattle and proved; `rt staticlib capi` writes it as a static library, and this crate links
+//! it. What each call answers is the paper's ("01", the board's protocol, line by line), for every input, and nothing
+//! here adds to it: refusals become the errors of [`Refusal`], numbers become enums, and lengths become slices.
+//!
+//! | Call | What it does |
+//! |---|---|
+//! | [`Board::start`], [`Board::feed`] | the board: bytes in, replies out, settings and the start-up page kept |
+//! | [`check_message`], [`write_message`] | one whole message |
+//! | [`write_command`], [`read_reply`] | the controller's side |
+//! | [`read_field`], [`field_data`], [`write_data`], [`write_data_bits`] | the data message |
+//! | [`check_page`], [`Values::read`], [`Values::write`], [`copy_body`], [`factory_page`] | the start-up page |
+//!
+//! [`ffi`] has the same calls one to one, with the numbers and records of the C interface.
+//!
+//! ```
+//! use ketphiroj::{Board, Outcome};
+//!
+//! let mut page = [0xFF; 64];
+//! let mut board = Board::start(&page)?;
+//! let mut room = [0; Board::REPLY];
+//!
+//! // A byte of noise, then a Ping.
+//! let chunk = [0x00, 0xA5, 0xA5, 0x01, 0x02, 0x02, 0x00, 0x4F, 0x25];
+//! let outcome = board.feed(0, &chunk, &mut room, &mut page)?;
+//! assert_eq!(outcome, Outcome::Reported { taken: 9, skipped: 1, saved: false, reply: 10 });
+//! assert_eq!(room[..10], [0xA5, 0xA5, 0x01, 0x04, 0x80, 0x02, 0x02, 0x00, 0xD3, 0xCF]);
+//! # Ok::<(), ketphiroj::Refusal>(())
+//! ```
+
+#![deny(unsafe_code)]
+#![warn(missing_docs)]
+
+mod board;
+mod data;
+pub mod ffi;
+mod message;
+mod page;
+mod refusal;
+mod reply;
+
+pub use board::{Board, Outcome, Port, Settings};
+pub use data::{field_data, read_field, write_data, write_data_bits, Axes, Field};
+pub use message::{check_message, code, function, write_command, write_message};
+pub use page::{check_page, copy_body, factory_page, Values, PAGE};
+pub use refusal::Refusal;
+pub use reply::{read_reply, Reply};

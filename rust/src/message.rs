@@ -1,0 +1,87 @@
+//! One whole message, and the command writer.
+
+use crate::ffi;
+use crate::refusal::{done_or_refused, Refusal};
+
+/// The codes that the board knows.
+pub mod code {
+    /// The baud rate of the serial port.
+    pub const BAUD: u8 = 0x01;
+    /// Ping.
+    pub const PING: u8 = 0x02;
+    /// The accelerometer's range.
+    pub const ACCELEROMETER: u8 = 0x07;
+    /// The gyroscope's range.
+    pub const GYROSCOPE: u8 = 0x08;
+}
+
+/// The functions of a setting.
+pub mod function {
+    /// Use the value.
+    pub const USE: u8 = 1;
+    /// Report the working value.
+    pub const REPORT: u8 = 2;
+    /// Save the working value to the page.
+    pub const SAVE: u8 = 3;
+    /// Take the page's value.
+    pub const LOAD: u8 = 4;
+    /// Take the factory value.
+    pub const FACTORY: u8 = 5;
+}
+
+/// The message's length, or the refusal.
+pub(crate) fn length_of(written: ffi::Written) -> Result<usize, Refusal> {
+    done_or_refused(written.number)?;
+    Ok(written.length)
+}
+
+/// Whether this is one whole message with right sums.
+///
+/// Refuses with [`Refusal::NotWhole`] and [`Refusal::Sums`].
+///
+/// ```
+/// use ketphiroj::{check_message, Refusal};
+///
+/// let mut ping = [0xA5, 0xA5, 0x01, 0x02, 0x02, 0x00, 0x4F, 0x25];
+/// assert_eq!(check_message(&ping), Ok(()));
+/// ping[7] = 0x24;
+/// assert_eq!(check_message(&ping), Err(Refusal::Sums));
+/// assert_eq!(check_message(&ping[..7]), Err(Refusal::NotWhole));
+/// ```
+pub fn check_message(message: &[u8]) -> Result<(), Refusal> {
+    done_or_refused(ffi::check_message(message))
+}
+
+/// Writes the message of this type and payload to the room's front, and gives its length.
+///
+/// Refuses with [`Refusal::Payload`] and [`Refusal::Room`].
+///
+/// ```
+/// use ketphiroj::{write_message, Refusal};
+///
+/// let mut room = [0; 8];
+/// assert_eq!(write_message(0x01, &[0x02, 0x00], &mut room), Ok(8));
+/// assert_eq!(room, [0xA5, 0xA5, 0x01, 0x02, 0x02, 0x00, 0x4F, 0x25]);
+/// assert_eq!(write_message(0x01, &[0; 3], &mut room), Err(Refusal::Room));
+/// assert_eq!(write_message(0x01, &[0; 256], &mut room), Err(Refusal::Payload));
+/// ```
+pub fn write_message(kind: u8, payload: &[u8], room: &mut [u8]) -> Result<usize, Refusal> {
+    length_of(ffi::write_message(kind, payload, room))
+}
+
+/// Writes the command of this code and function to the room's front, and gives its length: function 1 with the value,
+/// the functions 2 to 5 without, Ping without both. What is not written is not looked at.
+///
+/// Refuses with [`Refusal::Command`] and [`Refusal::Room`].
+///
+/// ```
+/// use ketphiroj::{code, function, write_command, Refusal};
+///
+/// let mut room = [0; 16];
+/// assert_eq!(write_command(code::ACCELEROMETER, function::USE, 2, &mut room), Ok(10));
+/// assert_eq!(room[..10], [0xA5, 0xA5, 0x02, 0x04, 0x07, 0x02, 0x01, 0x02, 0x5C, 0xF1]);
+/// assert_eq!(write_command(code::ACCELEROMETER, function::USE, 5, &mut room), Err(Refusal::Command));
+/// ```
+pub fn write_command(code: u8, function: u8, value: u32, room: &mut [u8]) -> Result<usize, Refusal> {
+    length_of(ffi::write_command(code, function, value, room))
+}

@@ -1,0 +1,108 @@
+//! The start-up page.
+
+use crate::ffi;
+use crate::message::length_of;
+use crate::refusal::{done_or_refused, Refusal};
+
+/// The length of a page.
+pub const PAGE: usize = 64;
+
+/// The values that a page keeps, one or none under each code.
+#[derive(Clone, Copy, Debug, Default, PartialEq, Eq)]
+pub struct Values {
+    /// Under code 01.
+    pub baud: Option<u32>,
+    /// Under code 07.
+    pub accelerometer: Option<u32>,
+    /// Under code 08.
+    pub gyroscope: Option<u32>,
+}
+
+impl Values {
+    /// The values that a page of any bytes keeps, allowed or not. [`check_page`] tells whether the page is sound.
+    ///
+    /// ```
+    /// use ketphiroj::{factory_page, Values};
+    ///
+    /// let values = Values::read(&factory_page());
+    /// assert_eq!(values, Values { baud: Some(115200), accelerometer: Some(2), gyroscope: Some(3) });
+    /// assert_eq!(Values::read(&[0xFF; 64]), Values::default());
+    /// ```
+    pub fn read(page: &[u8]) -> Values {
+        let flat = ffi::read_page(page);
+        Values {
+            baud: flat.has_baud.then_some(flat.baud),
+            accelerometer: flat.has_accelerometer.then_some(flat.accelerometer),
+            gyroscope: flat.has_gyroscope.then_some(flat.gyroscope),
+        }
+    }
+
+    /// Writes the page anew so that it keeps these values; blank with none.
+    ///
+    /// Refuses with [`Refusal::PageLength`], and with [`Refusal::Page`] where a value is not allowed.
+    ///
+    /// ```
+    /// use ketphiroj::{Refusal, Values};
+    ///
+    /// let mut page = [0; 64];
+    /// Values { gyroscope: Some(7), ..Values::default() }.write(&mut page)?;
+    /// assert_eq!(page[..6], [0x01, 0x08, 0x04, 0x01, 0x07, 0xFF]);
+    /// let refused = Values { gyroscope: Some(8), ..Values::default() }.write(&mut page);
+    /// assert_eq!(refused, Err(Refusal::Page));
+    /// # Ok::<(), Refusal>(())
+    /// ```
+    pub fn write(&self, page: &mut [u8]) -> Result<(), Refusal> {
+        done_or_refused(ffi::write_page(self.flat(), page))
+    }
+
+    fn flat(&self) -> ffi::FlatValues {
+        ffi::FlatValues {
+            has_baud: self.baud.is_some(),
+            baud: self.baud.unwrap_or(0),
+            has_accelerometer: self.accelerometer.is_some(),
+            accelerometer: self.accelerometer.unwrap_or(0),
+            has_gyroscope: self.gyroscope.is_some(),
+            gyroscope: self.gyroscope.unwrap_or(0),
+        }
+    }
+}
+
+/// Whether a page is blank or sound.
+///
+/// Refuses with [`Refusal::PageLength`] and [`Refusal::Page`].
+///
+/// ```
+/// use ketphiroj::{check_page, factory_page, Refusal};
+///
+/// assert_eq!(check_page(&[0xFF; 64]), Ok(()));
+/// assert_eq!(check_page(&factory_page()), Ok(()));
+/// assert_eq!(check_page(&[0x00; 64]), Err(Refusal::Page));
+/// ```
+pub fn check_page(page: &[u8]) -> Result<(), Refusal> {
+    done_or_refused(ffi::check_page(page))
+}
+
+/// Copies the body under a code to the room's front, and gives its length: from the saved page if it has the entry,
+/// else from the factory page; nothing where neither has it.
+///
+/// Refuses with [`Refusal::Room`].
+///
+/// ```
+/// use ketphiroj::{code, copy_body, factory_page, Refusal};
+///
+/// let mut room = [0; 4];
+/// assert_eq!(copy_body(&[0xFF; 64], &factory_page(), code::BAUD, &mut room), Ok(4));
+/// assert_eq!(u32::from_be_bytes(room), 115200);
+/// assert_eq!(copy_body(&[0xFF; 64], &[0xFF; 64], code::BAUD, &mut room), Ok(0));
+/// ```
+pub fn copy_body(saved: &[u8], factory: &[u8], code: u8, room: &mut [u8]) -> Result<usize, Refusal> {
+    length_of(ffi::copy_body(saved, factory, code, room))
+}
+
+/// The writing of the factory values.
+pub fn factory_page() -> [u8; PAGE] {
+    let mut page = [0; PAGE];
+    let written = ffi::factory_page(&mut page);
+    debug_assert_eq!((written.number, written.length), (0, PAGE));
+    page
+}
