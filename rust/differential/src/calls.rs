@@ -1,0 +1,68 @@
+//! The calls under test.
+
+use ketphiroj::ffi::{self, Fed, FlatField, FlatReply, FlatValues, Started, Written};
+use ketphiroj::Board;
+
+/// The library's calls. An implementation changes some of them to plant a fault.
+pub trait Calls {
+    fn start(&self, page: &[u8]) -> Started {
+        ffi::start(page)
+    }
+
+    fn feed(&self, port: u8, board: Board, chunk: &[u8], room: &mut [u8], page: &mut [u8]) -> Fed {
+        ffi::feed(port, board, chunk, room, page)
+    }
+
+    fn check_message(&self, message: &[u8]) -> u8 {
+        ffi::check_message(message)
+    }
+
+    fn write_message(&self, kind: u8, payload: &[u8], room: &mut [u8]) -> Written {
+        ffi::write_message(kind, payload, room)
+    }
+
+    fn write_command(&self, code: u8, function: u8, value: u32, room: &mut [u8]) -> Written {
+        ffi::write_command(code, function, value, room)
+    }
+
+    fn read_reply(&self, message: &[u8]) -> FlatReply {
+        ffi::read_reply(message)
+    }
+
+    fn read_field(&self, message: &[u8], k: usize) -> FlatField {
+        ffi::read_field(message, k)
+    }
+
+    fn copy_field(&self, message: &[u8], k: usize, room: &mut [u8]) -> Written {
+        ffi::copy_field(message, k, room)
+    }
+
+    fn write_data(&self, acceleration: [u32; 3], rate: [u32; 3], room: &mut [u8]) -> Written {
+        ffi::write_data(acceleration, rate, room)
+    }
+
+    fn check_page(&self, page: &[u8]) -> u8 {
+        ffi::check_page(page)
+    }
+
+    fn read_page(&self, page: &[u8]) -> FlatValues {
+        ffi::read_page(page)
+    }
+
+    fn write_page(&self, values: FlatValues, page: &mut [u8]) -> u8 {
+        ffi::write_page(values, page)
+    }
+
+    fn copy_body(&self, saved: &[u8], factory: &[u8], code: u8, room: &mut [u8]) -> Written {
+        ffi::copy_body(saved, factory, code, room)
+    }
+
+    fn factory_page(&self, room: &mut [u8]) -> Written {
+        ffi::factory_page(room)
+    }
+}
+
+/// The library as it is.
+pub struct Library;
+
+impl Calls for Library {}

@@ -1,0 +1,223 @@
+//! Planted faults: the library with one answer changed in one case. Each must be found, or the comparison cannot fail.
+
+use crate::calls::Calls;
+use ketphiroj::ffi::{self, Fed, FlatField, FlatReply, FlatValues, Started, Written};
+use ketphiroj::{Board, Port};
+
+/// A fault, and the group of cases that is to find it.
+#[derive(Clone, Copy, Debug, PartialEq, Eq)]
+pub enum Fault {
+    // Found in lists.
+    ReplyOfError4,
+    RoomPastTheReply,
+    SkippedOfHeldMessage,
+    MarkOfTheSameSave,
+    OtherPort,
+    LongestMessage,
+    PageOfARefusal,
+    DamagedDropped,
+    OnlyFirstChange,
+    // Found in single feeds.
+    SizeBeforeCode,
+    SentValueSaved,
+    JunkKept,
+    UnsoundBeforePort,
+    // Found in the calls of their own.
+    StartOnThreeEntries,
+    WholeWithoutSums,
+    ReplyOfError5,
+    SignallingNanRead,
+    FieldPlace,
+    FieldCopyInShortRoom,
+    RoomThatJustFits,
+    RangeModulo256,
+    SignallingNanWritten,
+    PageOfNoEntry,
+    ValueOfWrongSize,
+    ValueNotThere,
+    BodyFromFactory,
+    FactoryPageInLongRoom,
+}
+
+/// The fault, planted.
+pub struct Planted(pub Fault);
+
+impl Planted {
+    fn is(&self, fault: Fault) -> bool {
+        self.0 == fault
+    }
+}
+
+impl Calls for Planted {
+    fn start(&self, page: &[u8]) -> Started {
+        let mut started = ffi::start(page);
+        if self.is(Fault::StartOnThreeEntries) && started.number == 0 && page[0] == 3 {
+            started.board.settings.gyroscope = 3;
+        }
+        started
+    }
+
+    fn feed(&self, port: u8, board: Board, chunk: &[u8], room: &mut [u8], page: &mut [u8]) -> Fed {
+        let page_before = page.to_vec();
+        let mut fed = ffi::feed(port, board, chunk, room, page);
+        match self.0 {
+            Fault::ReplyOfError4 if fed.number == 0 && room[7] == 4 => room[9] ^= 1,
+            Fault::RoomPastTheReply if fed.number == 0 && room.len() > 16 => room[16] = 0,
+            Fault::SkippedOfHeldMessage if fed.number == 0 && fed.taken == 0 && fed.skipped > 0 => fed.skipped -= 1,
+            Fault::MarkOfTheSameSave if fed.saved && page == page_before => fed.saved = false,
+            Fault::OtherPort if fed.number == 0 && port == 1 && fed.board.first.held > 2 => {
+                fed.board.first.bytes[fed.board.first.held] = 1
+            }
+            Fault::LongestMessage if fed.number == 1 && fed.board.first.held == 260 => fed.board.first.bytes[259] = 0,
+            Fault::PageOfARefusal if fed.number == 18 => page[63] = 0,
+            Fault::DamagedDropped if fed.number == 0 && room[7] == 1 && port == 0 => drop_held(&mut fed),
+            Fault::OnlyFirstChange if board.settings.gyroscope != 3 => fed.board.settings = board.settings,
+            Fault::SizeBeforeCode if fed.number == 0 && room[7] == 3 => error_4_for_wrong_size(chunk, room),
+            Fault::SentValueSaved if fed.saved && chunk.len() == 10 => save_sent_range(chunk, page),
+            Fault::JunkKept if fed.number == 1 && chunk.is_empty() => keep_junk(&mut fed, &board),
+            Fault::UnsoundBeforePort if fed.number == 16 && board.first.held > 260 => fed.number = 17,
+            _ => {}
+        }
+        fed
+    }
+
+    fn check_message(&self, message: &[u8]) -> u8 {
+        match ffi::check_message(message) {
+            // The second sum is not looked at.
+            22 if self.is(Fault::WholeWithoutSums) && only_second_sum_wrong(message) => 0,
+            number => number,
+        }
+    }
+
+    fn read_reply(&self, message: &[u8]) -> FlatReply {
+        let read = ffi::read_reply(message);
+        let more = read.number == 23 && message.len() == 10 && message[4..6] == [0x80, 2] && message[7] == 5;
+        if self.is(Fault::ReplyOfError5) && more {
+            return FlatReply { number: 0, kind: message[2], echo: message[6], error: 5, ..read };
+        }
+        read
+    }
+
+    fn read_field(&self, message: &[u8], k: usize) -> FlatField {
+        let mut read = ffi::read_field(message, k);
+        if self.is(Fault::SignallingNanRead) {
+            read.y = quiet(read.y);
+        }
+        if self.is(Fault::FieldPlace) && read.number == 0 && read.place > 100 {
+            read.place -= 4;
+        }
+        read
+    }
+
+    fn copy_field(&self, message: &[u8], k: usize, room: &mut [u8]) -> Written {
+        let written = ffi::copy_field(message, k, room);
+        if self.is(Fault::FieldCopyInShortRoom) && written.number == 18 && !room.is_empty() {
+            room[0] = message[4];
+        }
+        written
+    }
+
+    fn write_message(&self, kind: u8, payload: &[u8], room: &mut [u8]) -> Written {
+        if self.is(Fault::RoomThatJustFits) && room.len() == payload.len() + 6 && payload.len() == 255 {
+            return Written { number: 18, length: 0 };
+        }
+        ffi::write_message(kind, payload, room)
+    }
+
+    fn write_command(&self, code: u8, function: u8, value: u32, room: &mut [u8]) -> Written {
+        let value = if self.is(Fault::RangeModulo256) && code != 0x01 { value % 256 } else { value };
+        ffi::write_command(code, function, value, room)
+    }
+
+    fn write_data(&self, acceleration: [u32; 3], rate: [u32; 3], room: &mut [u8]) -> Written {
+        let [x, y, z] = rate;
+        let rate = if self.is(Fault::SignallingNanWritten) { [x, y, quiet(z)] } else { rate };
+        ffi::write_data(acceleration, rate, room)
+    }
+
+    fn check_page(&self, page: &[u8]) -> u8 {
+        match ffi::check_page(page) {
+            20 if self.is(Fault::PageOfNoEntry) && page[0] == 0 => 0,
+            number => number,
+        }
+    }
+
+    fn read_page(&self, page: &[u8]) -> FlatValues {
+        let mut values = ffi::read_page(page);
+        if self.is(Fault::ValueOfWrongSize) && page.len() == 64 && page[..2] == [1, 7] && !values.has_accelerometer {
+            values.has_accelerometer = true;
+        }
+        values
+    }
+
+    fn write_page(&self, mut values: FlatValues, page: &mut [u8]) -> u8 {
+        if self.is(Fault::ValueNotThere) && !values.has_baud {
+            values.has_baud = values.baud == 9600;
+        }
+        ffi::write_page(values, page)
+    }
+
+    fn copy_body(&self, saved: &[u8], factory: &[u8], code: u8, room: &mut [u8]) -> Written {
+        if self.is(Fault::BodyFromFactory) && saved.first() == Some(&4) {
+            return ffi::copy_body(&saved[1..], factory, code, room);
+        }
+        let written = ffi::copy_body(saved, factory, code, room);
+        if self.is(Fault::BodyFromFactory) && written.length == 0 && written.number == 0 {
+            return ffi::copy_body(factory, factory, code, room);
+        }
+        written
+    }
+
+    fn factory_page(&self, room: &mut [u8]) -> Written {
+        let written = ffi::factory_page(room);
+        if self.is(Fault::FactoryPageInLongRoom) && room.len() > 128 {
+            room[64] = 0xFF;
+        }
+        written
+    }
+}
+
+/// Of a damaged message all is dropped, and not one byte.
+fn drop_held(fed: &mut Fed) {
+    fed.skipped += fed.board.first.held;
+    fed.board.first = Port::new();
+}
+
+/// The size byte is compared before the code: 4 where 3 comes first.
+fn error_4_for_wrong_size(chunk: &[u8], room: &mut [u8]) {
+    if chunk.len() > 7 && usize::from(chunk[5]) + 2 != usize::from(chunk[3]) {
+        let (kind, echo) = (room[2], room[6]);
+        ffi::write_message(kind, &[0x80, 2, echo, 4], room);
+    }
+}
+
+/// Function 3 of a range saves the value that came with it.
+fn save_sent_range(chunk: &[u8], page: &mut [u8]) {
+    let mut values = ffi::read_page(page);
+    match chunk[4] {
+        0x07 => values.accelerometer = u32::from(chunk[7]),
+        _ => values.gyroscope = u32::from(chunk[7]),
+    }
+    ffi::write_page(values, page);
+}
+
+/// The fed port's bytes past the held ones, as they came.
+fn keep_junk(fed: &mut Fed, given: &Board) {
+    let held = fed.board.second.held;
+    fed.board.second.bytes[held..].copy_from_slice(&given.second.bytes[held..]);
+}
+
+fn only_second_sum_wrong(message: &[u8]) -> bool {
+    let end = message.len() - 2;
+    plain::sums(&message[..end]).f1 == message[end]
+}
+
+/// A signalling NaN made quiet, as arithmetic would.
+fn quiet(bits: u32) -> u32 {
+    let nan = bits & 0x7F80_0000 == 0x7F80_0000 && bits & 0x007F_FFFF != 0;
+    if nan {
+        bits | 0x0040_0000
+    } else {
+        bits
+    }
+}

@@ -1,0 +1,69 @@
+//! One start and one feed, compared whole.
+
+use crate::calls::Calls;
+use crate::group::{filled, same, Outcome};
+use crate::records;
+use ketphiroj::{Board, Refusal};
+
+/// A board of the library and its page, and those of the plain reading, which are the same so far.
+#[derive(Clone)]
+pub struct Pair {
+    pub board: Board,
+    pub plain: plain::Board,
+    pub page: Vec<u8>,
+}
+
+/// Starts both on a page, whether they accept it or not. Gives the number too.
+pub fn start(calls: &impl Calls, page: &[u8]) -> Result<(u8, Pair), String> {
+    let started = calls.start(page);
+    let (number, plain) = plain::start(page);
+    same("number of start", &started.number, &number)?;
+    same("board of start", &started.board, &records::board(&plain))?;
+    Ok((number, Pair { board: started.board, plain, page: page.to_vec() }))
+}
+
+/// What was fed, for the messages of a difference and for the wrapper.
+pub struct Feed<'a> {
+    pub port: u8,
+    pub chunk: &'a [u8],
+    pub room: usize,
+}
+
+/// Feeds both, and compares the answer, the board whole, the room and the page.
+pub fn feed(calls: &impl Calls, pair: &mut Pair, given: &Feed) -> Result<(plain::Fed, Vec<u8>), String> {
+    // A byte that depends on the chunk, so that no filling is that of every feed.
+    let filling = 0x5C ^ given.chunk.len() as u8;
+    let mut room = filled(given.room, filling);
+    let mut plain_room = room.clone();
+    let mut plain_page = pair.page.clone();
+    let fed = calls.feed(given.port, pair.board, given.chunk, &mut room, &mut pair.page);
+    let plain = plain::feed(given.port, &pair.plain, given.chunk, &mut plain_room, &mut plain_page);
+    same("number", &fed.number, &plain.number)?;
+    same("taken", &fed.taken, &plain.taken)?;
+    same("skipped", &fed.skipped, &plain.skipped)?;
+    same("saved", &fed.saved, &plain.saved)?;
+    same("room", &room, &plain_room)?;
+    same("page", &pair.page, &plain_page)?;
+    same("board", &fed.board, &records::board(&plain.board))?;
+    pair.board = fed.board;
+    pair.plain = plain.board;
+    Ok((plain, room))
+}
+
+/// The wrapper on the same feed: its outcome says what the numbers say, and the board of a refusal stays.
+pub fn feed_wrapped(before: &Pair, after: &Pair, given: &Feed, fed: &plain::Fed, room: &[u8]) -> Outcome {
+    let mut board = before.board;
+    let mut page = before.page.clone();
+    let mut wrapped_room = filled(given.room, 0x5C ^ given.chunk.len() as u8);
+    let outcome = board.feed(given.port, given.chunk, &mut wrapped_room, &mut page);
+    let (taken, skipped, saved) = (fed.taken, fed.skipped, fed.saved);
+    let expected = match fed.number {
+        0 => Ok(ketphiroj::Outcome::Reported { taken, skipped, saved, reply: usize::from(room[3]) + 6 }),
+        1 => Ok(ketphiroj::Outcome::UsedUp { taken, skipped }),
+        number => Err(Refusal::from_number(number).ok_or("a number of no refusal")?),
+    };
+    same("wrapped outcome", &outcome, &expected)?;
+    same("wrapped board", &board, &after.board)?;
+    same("wrapped room", &wrapped_room[..], room)?;
+    same("wrapped page", &page, &after.page)
+}

@@ -1,0 +1,226 @@
+//! Lists of feeds from a start on a blank or sound page.
+
+use crate::calls::Calls;
+use crate::feeding::{self, Feed, Pair};
+use crate::group::{same, Outcome, Ran};
+use plain::generate::{self, Call, Rng, Step};
+use plain::{Reckoned, Reckoning};
+
+/// What a list is compared with, beyond the plain feed.
+#[derive(Clone, Copy, PartialEq, Eq)]
+pub enum Beside {
+    Nothing,
+    /// The plain reckoning: each answer, and the state at the end.
+    Reckoning,
+    /// The wrapper's own feed.
+    Wrapper,
+}
+
+/// Runs a list: every answer, room, board and page is compared after every feed.
+pub fn run(calls: &impl Calls, page: &[u8], list: &[Step], beside: Beside, ran: &mut Ran) -> Outcome {
+    let mut pair = started(calls, page)?;
+    let mut reckoning = (beside == Beside::Reckoning).then(|| Reckoning::new(page));
+    for (place, step) in list.iter().enumerate() {
+        match step {
+            Step::Restart => {
+                reckoned_end(&reckoning, &pair)?;
+                pair = started(calls, &pair.page.clone())?;
+                reckoning = reckoning.map(|_| Reckoning::new(&pair.page));
+            }
+            Step::Feed(call) => {
+                let number = feed(calls, &mut pair, call, beside, &mut reckoning)
+                    .map_err(|text| format!("step {place}: {text}"))?;
+                ran.count(number);
+            }
+        }
+    }
+    reckoned_end(&reckoning, &pair)
+}
+
+fn started(calls: &impl Calls, page: &[u8]) -> Result<Pair, String> {
+    let (number, pair) = feeding::start(calls, page)?;
+    same("number of start", &number, &0)?;
+    Ok(pair)
+}
+
+fn feed(
+    calls: &impl Calls,
+    pair: &mut Pair,
+    call: &Call,
+    beside: Beside,
+    reckoning: &mut Option<Reckoning>,
+) -> Result<u8, String> {
+    let given = Feed { port: call.port, chunk: &call.chunk, room: call.room };
+    let before = (beside == Beside::Wrapper).then(|| pair.clone());
+    let (fed, room) = feeding::feed(calls, pair, &given)?;
+    if let Some(before) = before {
+        feeding::feed_wrapped(&before, pair, &given, &fed, &room)?;
+    }
+    if let Some(reckoning) = reckoning {
+        let reckoned = reckoning.feed(call.port, &call.chunk, call.room);
+        same("answer and reckoning", &answer(&fed, &room), &reckoned)?;
+    }
+    Ok(fed.number)
+}
+
+/// What the feed answered, in the reckoning's record. The room and the answer are the library's, as compared before.
+fn answer(fed: &plain::Fed, room: &[u8]) -> Reckoned {
+    let reply = if fed.number == 0 { room[..usize::from(room[3]) + 6].to_vec() } else { Vec::new() };
+    Reckoned { number: fed.number, taken: fed.taken, skipped: fed.skipped, saved: fed.saved, reply }
+}
+
+/// Settings, held bytes and page as reckoned; past the held bytes a port is zero.
+fn reckoned_end(reckoning: &Option<Reckoning>, pair: &Pair) -> Outcome {
+    let Some(reckoning) = reckoning else {
+        return Ok(());
+    };
+    let settings = reckoning.settings();
+    let board = &pair.board;
+    same("reckoned baud", &board.settings.baud, &settings.baud)?;
+    same("reckoned accelerometer", &board.settings.accelerometer, &settings.accelerometer)?;
+    same("reckoned gyroscope", &board.settings.gyroscope, &settings.gyroscope)?;
+    same("reckoned page", &pair.page[..], &reckoning.page()[..])?;
+    for (number, port) in [(0, &board.first), (1, &board.second)] {
+        let mut bytes = reckoning.held(number);
+        same("reckoned held", &port.held, &bytes.len())?;
+        bytes.resize(260, 0);
+        same("reckoned port", &port.bytes[..], &bytes[..])?;
+    }
+    Ok(())
+}
+
+/// Runs a list; of a difference, the shortest list that shows one.
+pub fn run_or_shrink(calls: &impl Calls, page: &[u8], list: &[Step], beside: Beside, ran: &mut Ran) -> Outcome {
+    let Err(text) = run(calls, page, list, beside, ran) else {
+        return Ok(());
+    };
+    let again = |list: &[Step]| run(calls, page, list, beside, &mut Ran::default());
+    let short = generate::shrink(list, |list| again(list).is_err());
+    let why = again(&short).expect_err("a shrunk list still fails");
+    Err(format!("{text}\n{}\n  {why}", shown(page, &short)))
+}
+
+/// A list as text: the page, then a line for each step.
+fn shown(page: &[u8], list: &[Step]) -> String {
+    let bytes: usize = list.iter().map(bytes_fed).sum();
+    let mut text = format!("  shortest: {} steps with {bytes} bytes, from the page {}", list.len(), hex(page));
+    for step in list {
+        match step {
+            Step::Restart => text += "\n    restart",
+            Step::Feed(call) => {
+                text += &format!("\n    feed port {}, room {}, chunk {}", call.port, call.room, hex(&call.chunk))
+            }
+        }
+    }
+    text
+}
+
+pub fn hex(bytes: &[u8]) -> String {
+    if bytes.is_empty() {
+        return "(empty)".to_string();
+    }
+    bytes.iter().map(|byte| format!("{byte:02X}")).collect()
+}
+
+fn bytes_fed(step: &Step) -> usize {
+    match step {
+        Step::Feed(call) => call.chunk.len(),
+        Step::Restart => 0,
+    }
+}
+
+/// Lists of all kinds of streams.
+pub fn any(calls: &impl Calls, rng: &mut Rng, beside: Beside, ran: &mut Ran) -> Outcome {
+    let page = generate::sound_page(rng);
+    // The reckoning goes through all bytes again for each byte: short lists for it.
+    let pieces = match beside {
+        Beside::Reckoning => rng.between(1, 5),
+        _ => rng.between(1, 16),
+    };
+    let list = generate::steps(rng, &page, pieces);
+    run_or_shrink(calls, &page, &list, beside, ran)
+}
+
+/// Lists of the streams in which a scan can go wrong: messages within messages, runs of A5, false headers, the longest
+/// payloads.
+pub fn hard(calls: &impl Calls, rng: &mut Rng, ran: &mut Ran) -> Outcome {
+    let page = generate::sound_page(rng);
+    let stream: Vec<u8> = (0..rng.between(1, 8)).flat_map(|_| hard_piece(rng)).collect();
+    let list = cut_for_one_port(rng, &stream);
+    run_or_shrink(calls, &page, &list, Beside::Nothing, ran)
+}
+
+fn hard_piece(rng: &mut Rng) -> Vec<u8> {
+    let longest = |rng: &mut Rng| {
+        let length = rng.between(253, 255);
+        plain::message(generate::kind(rng), &rng.bytes(length))
+    };
+    match rng.below(10) {
+        0 | 1 => generate::nested(rng),
+        2 => {
+            let outer = generate::nested(rng);
+            generate::damage(rng, outer)
+        }
+        3 => vec![0xA5; rng.between(1, 300)],
+        4 => generate::run(rng),
+        5 => generate::false_header(rng),
+        6 => longest(rng),
+        7 => {
+            let whole = longest(rng);
+            generate::damage(rng, whole)
+        }
+        8 => full_of_headers(rng),
+        _ => generate::accepted_command(rng),
+    }
+}
+
+/// A long payload of A5 and small bytes, in which there is a header nearly everywhere.
+fn full_of_headers(rng: &mut Rng) -> Vec<u8> {
+    let length = rng.between(100, 255);
+    let payload: Vec<u8> = (0..length).map(|_| rng.pick(&[0xA5, 0xA5, 0xA5, 0x00, 0x01, 0x02])).collect();
+    let mut message = plain::message(generate::kind(rng), &payload);
+    if rng.chance(1, 2) {
+        message[4 + length] ^= 1;
+    }
+    message
+}
+
+/// Feeds a stream to one port and offers again what was not taken, so that nothing of it is lost.
+fn cut_for_one_port(rng: &mut Rng, stream: &[u8]) -> Vec<Step> {
+    let mut page = vec![0xFF; 64];
+    let (_, mut board) = plain::start(&page);
+    let port = rng.below(2) as u8;
+    let mut rest = stream;
+    let mut list = Vec::new();
+    let mut answered = 0;
+    while !(rest.is_empty() && answered == 1) {
+        let length = generate::chunk_length(rng).min(rest.len());
+        let fed = plain::feed(port, &board, &rest[..length], &mut [0; 16], &mut page);
+        list.push(Step::Feed(Call { port, chunk: rest[..length].to_vec(), room: 16 }));
+        rest = &rest[fed.taken..];
+        board = fed.board;
+        answered = fed.number;
+    }
+    list
+}
+
+/// A stream much longer than a port's room, given whole to each feed as far as it was not taken.
+pub fn long(calls: &impl Calls, rng: &mut Rng, ran: &mut Ran) -> Outcome {
+    let page = generate::sound_page(rng);
+    let stream: Vec<u8> = (0..4000).flat_map(|_| generate::piece(rng)).collect();
+    let mut pair = started(calls, &page)?;
+    let mut at = 0;
+    loop {
+        let given = Feed { port: 0, chunk: &stream[at..], room: 16 };
+        let before = pair.board.first;
+        let (fed, _) = feeding::feed(calls, &mut pair, &given).map_err(|text| {
+            let near = &stream[at..stream.len().min(at + 300)];
+            format!("at byte {at}: {text}\n  held {}, then {}", hex(&before.bytes[..before.held]), hex(near))
+        })?;
+        ran.count(fed.number);
+        at += fed.taken;
+        if fed.number != 0 {
+            return same("bytes taken in all", &at, &stream.len());
+        }
+    }
+}

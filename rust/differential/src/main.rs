@@ -1,0 +1,274 @@
+//! The proved library against the plain reading of the paper.
+//!
+//! `SEED` repeats a run; `SCALE` makes it longer or shorter (in percent). The last line is the tally, a check for each
+//! group of cases and one for each planted fault.
+
+#![forbid(unsafe_code)]
+
+mod calls;
+mod faults;
+mod feeding;
+mod group;
+mod lists;
+mod messages;
+mod pages;
+mod records;
+mod singles;
+
+use calls::{Calls, Library};
+use faults::{Fault, Planted};
+use group::{Outcome, Ran};
+use lists::Beside;
+use plain::generate::Rng;
+use std::process::ExitCode;
+use std::time::{Instant, SystemTime, UNIX_EPOCH};
+
+/// A group of cases.
+#[derive(Clone, Copy, Debug, PartialEq, Eq)]
+enum Group {
+    Lists,
+    HardLists,
+    ReckonedLists,
+    WrappedLists,
+    LongStreams,
+    Boards,
+    Commands,
+    Starts,
+    Readers,
+    Replies,
+    WrittenMessages,
+    WrittenCommands,
+    WrittenData,
+    Pages,
+    WrittenPages,
+    Bodies,
+    FactoryPages,
+}
+
+const GROUPS: [Group; 17] = [
+    Group::Lists,
+    Group::HardLists,
+    Group::ReckonedLists,
+    Group::WrappedLists,
+    Group::LongStreams,
+    Group::Boards,
+    Group::Commands,
+    Group::Starts,
+    Group::Readers,
+    Group::Replies,
+    Group::WrittenMessages,
+    Group::WrittenCommands,
+    Group::WrittenData,
+    Group::Pages,
+    Group::WrittenPages,
+    Group::Bodies,
+    Group::FactoryPages,
+];
+
+impl Group {
+    /// How many cases a whole run has; a group that goes through all of its cases has one.
+    fn cases(self) -> u64 {
+        match self {
+            Group::Lists => 300_000,
+            Group::HardLists => 90_000,
+            Group::ReckonedLists => 120_000,
+            Group::WrappedLists => 40_000,
+            Group::LongStreams => 100,
+            Group::Boards => 1_500_000,
+            Group::Readers => 2_000_000,
+            Group::WrittenData => 1_000_000,
+            Group::Bodies => 1_000_000,
+            _ => 1,
+        }
+    }
+
+    /// The numbers that must come in it.
+    fn numbers(self) -> &'static [u8] {
+        match self {
+            Group::Lists | Group::ReckonedLists | Group::WrappedLists => &[0, 1, 16, 18],
+            Group::HardLists | Group::LongStreams => &[0, 1],
+            Group::Boards => &[0, 1, 16, 17, 18, 19, 20],
+            Group::Commands => &[0],
+            Group::Starts | Group::Pages | Group::WrittenPages => &[0, 19, 20],
+            Group::Readers => &[0, 18, 21, 22, 23, 24, 25, 27],
+            Group::Replies => &[0, 23],
+            Group::WrittenMessages => &[0, 18, 26],
+            Group::WrittenCommands => &[0, 18, 28],
+            Group::WrittenData | Group::Bodies | Group::FactoryPages => &[0, 18],
+        }
+    }
+
+    /// One case of the group, from its own seed.
+    fn case(self, calls: &impl Calls, rng: &mut Rng, ran: &mut Ran) -> Outcome {
+        match self {
+            Group::Lists => lists::any(calls, rng, Beside::Nothing, ran),
+            Group::HardLists => lists::hard(calls, rng, ran),
+            Group::ReckonedLists => lists::any(calls, rng, Beside::Reckoning, ran),
+            Group::WrappedLists => lists::any(calls, rng, Beside::Wrapper, ran),
+            Group::LongStreams => lists::long(calls, rng, ran),
+            Group::Boards => singles::any(calls, rng, ran),
+            Group::Commands => singles::commands(calls, rng, ran),
+            Group::Starts => singles::starts(calls, rng, ran),
+            Group::Readers => messages::read_any(calls, rng, ran),
+            Group::Replies => messages::all_replies(calls, ran),
+            Group::WrittenMessages => messages::write_messages(calls, rng, ran),
+            Group::WrittenCommands => messages::write_commands(calls, rng, ran),
+            Group::WrittenData => messages::write_data(calls, rng, ran),
+            Group::Pages => pages::read_all(calls, rng, ran),
+            Group::WrittenPages => pages::write_all(calls, rng, ran),
+            Group::Bodies => pages::copy_body(calls, rng, ran),
+            Group::FactoryPages => pages::factory_page(calls, ran),
+        }
+    }
+
+    /// The cases from a seed, up to the first difference. Gives the number of that case with it.
+    fn run(self, calls: &impl Calls, seed: u64, cases: u64, ran: &mut Ran) -> Result<(), (u64, String)> {
+        for place in 0..cases {
+            let mut rng = Rng::new(Rng::new(seed ^ (self as u64) << 56).word().wrapping_add(place << 20));
+            self.case(calls, &mut rng, ran).map_err(|text| (place, text))?;
+        }
+        Ok(())
+    }
+}
+
+/// The group that is to find a fault.
+fn finder(fault: Fault) -> Group {
+    match fault {
+        Fault::ReplyOfError4
+        | Fault::RoomPastTheReply
+        | Fault::SkippedOfHeldMessage
+        | Fault::MarkOfTheSameSave
+        | Fault::OtherPort
+        | Fault::PageOfARefusal
+        | Fault::DamagedDropped
+        | Fault::OnlyFirstChange => Group::Lists,
+        Fault::LongestMessage => Group::HardLists,
+        Fault::SizeBeforeCode | Fault::SentValueSaved => Group::Commands,
+        Fault::JunkKept | Fault::UnsoundBeforePort => Group::Boards,
+        Fault::StartOnThreeEntries => Group::Starts,
+        Fault::WholeWithoutSums | Fault::SignallingNanRead | Fault::FieldPlace | Fault::FieldCopyInShortRoom => {
+            Group::Readers
+        }
+        Fault::ReplyOfError5 => Group::Replies,
+        Fault::RoomThatJustFits => Group::WrittenMessages,
+        Fault::RangeModulo256 => Group::WrittenCommands,
+        Fault::SignallingNanWritten => Group::WrittenData,
+        Fault::PageOfNoEntry | Fault::ValueOfWrongSize => Group::Pages,
+        Fault::ValueNotThere => Group::WrittenPages,
+        Fault::BodyFromFactory => Group::Bodies,
+        Fault::FactoryPageInLongRoom => Group::FactoryPages,
+    }
+}
+
+const FAULTS: [Fault; 27] = [
+    Fault::ReplyOfError4,
+    Fault::RoomPastTheReply,
+    Fault::SkippedOfHeldMessage,
+    Fault::MarkOfTheSameSave,
+    Fault::OtherPort,
+    Fault::LongestMessage,
+    Fault::PageOfARefusal,
+    Fault::DamagedDropped,
+    Fault::OnlyFirstChange,
+    Fault::SizeBeforeCode,
+    Fault::SentValueSaved,
+    Fault::JunkKept,
+    Fault::UnsoundBeforePort,
+    Fault::StartOnThreeEntries,
+    Fault::WholeWithoutSums,
+    Fault::ReplyOfError5,
+    Fault::SignallingNanRead,
+    Fault::FieldPlace,
+    Fault::FieldCopyInShortRoom,
+    Fault::RoomThatJustFits,
+    Fault::RangeModulo256,
+    Fault::SignallingNanWritten,
+    Fault::PageOfNoEntry,
+    Fault::ValueOfWrongSize,
+    Fault::ValueNotThere,
+    Fault::BodyFromFactory,
+    Fault::FactoryPageInLongRoom,
+];
+
+/// The checks that passed and failed.
+#[derive(Default)]
+struct Tally {
+    passed: u64,
+    failed: u64,
+}
+
+impl Tally {
+    fn check(&mut self, passed: bool) {
+        if passed {
+            self.passed += 1;
+        } else {
+            self.failed += 1;
+        }
+    }
+}
+
+fn number_from(name: &str) -> Option<u64> {
+    let text = std::env::var(name).ok()?;
+    Some(text.parse().unwrap_or_else(|_| panic!("{name}={text} is not a number")))
+}
+
+/// The nanoseconds of the clock: another run each time.
+fn any_seed() -> u64 {
+    SystemTime::now().duration_since(UNIX_EPOCH).map_or(0, |since| since.as_nanos() as u64)
+}
+
+/// Runs a group on the library as it is, and prints what it ran.
+fn compare(group: Group, seed: u64, scale: u64, tally: &mut Tally) {
+    let begin = Instant::now();
+    let mut ran = Ran::default();
+    let cases = (group.cases() * scale / 100).max(1);
+    let result = group.run(&Library, seed, cases, &mut ran);
+    // A short run may miss a number.
+    let reached = if scale >= 100 { ran.reached(group.numbers()) } else { Ok(()) };
+    let seconds = begin.elapsed().as_secs_f64();
+    tally.check(result.is_ok() && reached.is_ok());
+    match result {
+        Ok(()) => println!("{group:?}: {cases} cases, {} calls compared, {seconds:.1} s", ran.calls),
+        Err((place, text)) => println!("DIFFERENCE in {group:?}, case {place}, SEED={seed}\n  {text}"),
+    }
+    if let Err(text) = reached {
+        println!("FAILED: {group:?}: {text}");
+    }
+}
+
+/// Runs the group that is to find a fault on the library with the fault in it.
+fn plant(fault: Fault, seed: u64, tally: &mut Tally) {
+    let group = finder(fault);
+    let found = group.run(&Planted(fault), seed, group.cases(), &mut Ran::default());
+    tally.check(found.is_err());
+    match found {
+        Ok(()) => println!("FAILED: the planted fault {fault:?} was not found in {group:?}"),
+        Err((place, text)) => println!("planted {fault:?}: found in {group:?}, case {place}\n  {}", cut(&text)),
+    }
+}
+
+/// The first lines of a text, so that a planted fault does not fill the screen.
+fn cut(text: &str) -> String {
+    let lines = text.lines().map(|line| line.chars().take(150).collect::<String>());
+    let lines: Vec<String> = lines.filter(|line| !line.contains("the library has")).take(6).collect();
+    lines.join("\n  ")
+}
+
+fn main() -> ExitCode {
+    let seed = number_from("SEED").unwrap_or_else(any_seed);
+    let scale = number_from("SCALE").unwrap_or(100);
+    println!("SEED={seed}");
+    let mut tally = Tally::default();
+    for group in GROUPS {
+        compare(group, seed, scale, &mut tally);
+    }
+    for fault in FAULTS {
+        plant(fault, seed, &mut tally);
+    }
+    println!("{} passed, {} failed", tally.passed, tally.failed);
+    if tally.failed == 0 {
+        ExitCode::SUCCESS
+    } else {
+        ExitCode::FAILURE
+    }
+}

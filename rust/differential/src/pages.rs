@@ -1,0 +1,134 @@
+//! The calls of the start-up page.
+
+use crate::calls::Calls;
+use crate::group::{filled, same, Outcome, Ran};
+use crate::lists::hex;
+use crate::records;
+use crate::singles::all_values;
+use ketphiroj::ffi::FlatValues;
+use ketphiroj::{Refusal, Values};
+use plain::generate::{self, Rng};
+
+/// The test and the values of a page of any contents and length.
+pub fn read(calls: &impl Calls, page: &[u8], ran: &mut Ran) -> Outcome {
+    let number = plain::check_page(page);
+    let values = records::values(&plain::read_values(page));
+    ran.count(number);
+    let compared = same("check_page", &calls.check_page(page), &number)
+        .and_then(|()| same("read_page", &calls.read_page(page), &values))
+        .and_then(|()| same("wrapped values", &Values::read(page), &optional(&values)));
+    compared.map_err(|text| format!("{text}\n  page {}", hex(page)))?;
+    let expected = if number == 0 { Ok(()) } else { Err(number) };
+    same("wrapped check", &ketphiroj::check_page(page).map_err(Refusal::number), &expected)
+}
+
+fn optional(flat: &FlatValues) -> Values {
+    Values {
+        baud: flat.has_baud.then_some(flat.baud),
+        accelerometer: flat.has_accelerometer.then_some(flat.accelerometer),
+        gyroscope: flat.has_gyroscope.then_some(flat.gyroscope),
+    }
+}
+
+/// Pages of all kinds, each sound page, and each page that differs from one in one byte.
+pub fn read_all(calls: &impl Calls, rng: &mut Rng, ran: &mut Ran) -> Outcome {
+    for values in all_values() {
+        let page = plain::write_page(&values);
+        read(calls, &page, ran)?;
+        for at in 0..64 {
+            let mut other = page;
+            other[at] = other[at].wrapping_add(rng.between(1, 255) as u8);
+            read(calls, &other, ran)?;
+        }
+    }
+    for _ in 0..300_000 {
+        read(calls, &generate::page(rng), ran)?;
+    }
+    (0..200).try_for_each(|length| read(calls, &vec![0x01; length], ran))
+}
+
+/// What writing a page answers, and the page after it. The plain reading writes allowed values only; the others are
+/// refused with 20, after 19.
+fn plain_writing(values: &FlatValues, page: &mut [u8]) -> u8 {
+    let values = optional(values);
+    let given = [(0x01, values.baud), (0x07, values.accelerometer), (0x08, values.gyroscope)];
+    let refused = |(code, value): (u8, Option<u32>)| value.is_some_and(|value| !plain::allowed(code, value));
+    if page.len() != 64 {
+        return plain::number::PAGE_LENGTH;
+    }
+    if given.into_iter().any(refused) {
+        return plain::number::PAGE;
+    }
+    let byte = |value: u32| value as u8;
+    page.copy_from_slice(&plain::write_page(&plain::Values {
+        baud: values.baud,
+        accelerometer: values.accelerometer.map(byte),
+        gyroscope: values.gyroscope.map(byte),
+    }));
+    plain::number::DONE
+}
+
+fn write_one(calls: &impl Calls, values: FlatValues, length: usize, ran: &mut Ran) -> Outcome {
+    let mut pages = [filled(length, 0x3D), filled(length, 0x3D), filled(length, 0x3D)];
+    let number = plain_writing(&values, &mut pages[0]);
+    ran.count(number);
+    let written = calls.write_page(values, &mut pages[1]);
+    let wrapped = optional(&values).write(&mut pages[2]).map_err(Refusal::number);
+    same("write_page", &written, &number)
+        .and_then(|()| same("page", &pages[1], &pages[0]))
+        .and_then(|()| same("wrapped write", &wrapped, &if number == 0 { Ok(()) } else { Err(number) }))
+        .and_then(|()| same("wrapped page", &pages[2], &pages[0]))
+        .map_err(|text| format!("{text}\n  {values:?}, page of {length} bytes"))
+}
+
+/// Each choice of allowed values; others, with values beside a `has_` that is false; pages of other lengths.
+pub fn write_all(calls: &impl Calls, rng: &mut Rng, ran: &mut Ran) -> Outcome {
+    for values in all_values() {
+        write_one(calls, records::values(&values), 64, ran)?;
+    }
+    for _ in 0..200_000 {
+        let values = FlatValues {
+            has_baud: rng.chance(1, 2),
+            baud: generate::value(rng, 0x01),
+            has_accelerometer: rng.chance(1, 2),
+            accelerometer: generate::value(rng, 0x07),
+            has_gyroscope: rng.chance(1, 2),
+            gyroscope: generate::value(rng, 0x08),
+        };
+        let length = if rng.chance(7, 8) { 64 } else { rng.below(130) };
+        write_one(calls, values, length, ran)?;
+    }
+    Ok(())
+}
+
+/// A body of the saved or the factory page, both of any contents, in a room of any length.
+pub fn copy_body(calls: &impl Calls, rng: &mut Rng, ran: &mut Ran) -> Outcome {
+    let saved = generate::page(rng);
+    let factory = if rng.chance(1, 2) { plain::factory_page().to_vec() } else { generate::page(rng) };
+    let code = generate::code(rng);
+    let length = if rng.chance(1, 8) { rng.below(80) } else { rng.below(8) };
+    let mut rooms = [filled(length, 0x3D), filled(length, 0x3D), filled(length, 0x3D)];
+    let expected = records::put(plain::body(&saved, &factory, code), &mut rooms[0]);
+    ran.count(expected.number);
+    let written = calls.copy_body(&saved, &factory, code, &mut rooms[1]);
+    let wrapped = ketphiroj::copy_body(&saved, &factory, code, &mut rooms[2]).map_err(Refusal::number);
+    let answer = if expected.number == 0 { Ok(expected.length) } else { Err(expected.number) };
+    same("copy_body", &written, &expected)
+        .and_then(|()| same("room", &rooms[1], &rooms[0]))
+        .and_then(|()| same("wrapped body", &wrapped, &answer))
+        .and_then(|()| same("wrapped room", &rooms[2], &rooms[0]))
+        .map_err(|text| format!("{text}\n  code {code:02X}, saved {}, factory {}", hex(&saved), hex(&factory)))
+}
+
+/// The factory page in rooms of all lengths.
+pub fn factory_page(calls: &impl Calls, ran: &mut Ran) -> Outcome {
+    for length in 0..200 {
+        let mut room = filled(length, 0x3D);
+        let mut plain_room = room.clone();
+        let expected = records::put(&plain::factory_page(), &mut plain_room);
+        ran.count(expected.number);
+        same("factory_page", &calls.factory_page(&mut room), &expected)?;
+        same("factory page's room", &room, &plain_room)?;
+    }
+    same("wrapped factory page", &ketphiroj::factory_page(), &plain::factory_page())
+}

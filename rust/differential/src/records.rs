@@ -1,0 +1,54 @@
+//! The plain reading's records as the library's.
+
+use ketphiroj::ffi::{FlatField, FlatReply, FlatValues, Written};
+use ketphiroj::{Board, Port, Settings};
+
+fn port(port: &plain::Port) -> Port {
+    Port { bytes: port.bytes, held: port.held }
+}
+
+pub fn board(board: &plain::Board) -> Board {
+    let plain::Settings { baud, accelerometer, gyroscope } = board.settings;
+    Board {
+        first: port(&board.ports[0]),
+        second: port(&board.ports[1]),
+        settings: Settings { baud, accelerometer, gyroscope },
+    }
+}
+
+pub fn written((number, length): (u8, usize)) -> Written {
+    Written { number, length }
+}
+
+pub fn reply(reply: plain::Reply) -> FlatReply {
+    let plain::Reply { number, kind, echo, error, value } = reply;
+    FlatReply { number, kind, echo, error, has_value: value.is_some(), value: value.unwrap_or(0) }
+}
+
+pub fn field((number, field): (u8, plain::Field)) -> FlatField {
+    match field {
+        plain::Field::Acceleration([x, y, z]) => FlatField { number, code: 0x81, place: 0, x, y, z },
+        plain::Field::Rate([x, y, z]) => FlatField { number, code: 0x82, place: 0, x, y, z },
+        plain::Field::Unknown { code, place } => FlatField { number, code, place, x: 0, y: 0, z: 0 },
+    }
+}
+
+pub fn values(values: &plain::Values) -> FlatValues {
+    FlatValues {
+        has_baud: values.baud.is_some(),
+        baud: values.baud.unwrap_or(0),
+        has_accelerometer: values.accelerometer.is_some(),
+        accelerometer: values.accelerometer.map_or(0, u32::from),
+        has_gyroscope: values.gyroscope.is_some(),
+        gyroscope: values.gyroscope.map_or(0, u32::from),
+    }
+}
+
+/// What a call answers that copies these bytes to the room's front, or refuses with 18 where they do not fit.
+pub fn put(bytes: &[u8], room: &mut [u8]) -> Written {
+    if room.len() < bytes.len() {
+        return written((plain::number::ROOM, 0));
+    }
+    room[..bytes.len()].copy_from_slice(bytes);
+    written((plain::number::DONE, bytes.len()))
+}
