@@ -1,0 +1,68 @@
+//! Single feeds of a few kinds, to see what a feed costs beside the scan.
+
+use ketphiroj::{Board, Values};
+use std::time::Instant;
+
+/// One feed that leaves the board as it was, so that it can be repeated.
+pub struct Case {
+    pub name: &'static str,
+    port: u8,
+    chunk: Vec<u8>,
+    page: [u8; 64],
+    first: Option<u8>,
+}
+
+fn full_page() -> [u8; 64] {
+    let mut page = [0; 64];
+    let values = Values { baud: Some(9600), accelerometer: Some(1), gyroscope: Some(1) };
+    values.write(&mut page).expect("allowed values");
+    page
+}
+
+/// The cases, the cheapest first.
+pub fn cases() -> Vec<Case> {
+    let ping = plain::message(0x01, &[0x02, 0]);
+    let case = |name, port, chunk: &[u8], page| Case { name, port, chunk: chunk.to_vec(), page, first: None };
+    let blank = [0xFF; 64];
+    vec![
+        case("refused: port 2", 2, &[], blank),
+        case("nothing fed, blank page", 0, &[], blank),
+        case("nothing fed, page of three entries", 0, &[], full_page()),
+        case("Ping, blank page", 0, &ping, blank),
+        case("Ping, page of three entries", 0, &ping, full_page()),
+        Case { first: Some(0xA5), ..case("Ping that straddles two feeds, both", 0, &ping[1..], blank) },
+        case("report of a range, page of three entries", 0, &plain::message(0x02, &[0x07, 1, 2]), full_page()),
+        case("save of a range, page of three entries", 0, &plain::message(0x02, &[0x07, 1, 3]), full_page()),
+        case("34 bytes, blank page", 0, &plain::message(0xA2, &[0x11; 28]), blank),
+        case("261 bytes, blank page", 0, &plain::message(0xA2, &[0x11; 255]), blank),
+    ]
+}
+
+/// Few, so that one of the runs is not disturbed.
+const FEEDS: u32 = 2000;
+
+impl Case {
+    fn feed(&self, board: &mut Board, page: &mut [u8; 64]) {
+        let mut room = [0; Board::REPLY];
+        if let Some(byte) = self.first {
+            let _ = board.feed(self.port, &[byte], &mut room, page);
+        }
+        // A refusal is one of the cases.
+        let _ = std::hint::black_box(board.feed(self.port, std::hint::black_box(&self.chunk), &mut room, page));
+    }
+
+    /// The nanoseconds of one feed, in the smallest of some runs.
+    pub fn nanoseconds(&self, runs: u32) -> f64 {
+        let mut smallest = f64::MAX;
+        for _ in 0..runs {
+            let mut page = self.page;
+            let mut board = Board::start(&page).expect("a sound page");
+            let begin = Instant::now();
+            for _ in 0..FEEDS {
+                self.feed(&mut board, &mut page);
+            }
+            smallest = smallest.min(begin.elapsed().as_secs_f64() * 1e9 / f64::from(FEEDS));
+        }
+        smallest
+    }
+}
