@@ -163,17 +163,27 @@ impl Board {
         let (taken, skipped) = (fed.taken, fed.skipped);
         match fed.number {
             0 => {
-                *self = fed.board;
+                self.take_over(port, &fed.board);
                 // A reply is a message: its length byte says how long it is.
                 let reply = usize::from(room[3]) + 6;
                 Ok(Outcome::Reported { taken, skipped, saved: fed.saved, reply })
             }
             1 => {
-                *self = fed.board;
+                self.take_over(port, &fed.board);
                 Ok(Outcome::UsedUp { taken, skipped })
             }
             // The board that a refusal gives back is the one that it got.
             number => Err(refusal_of(number)),
         }
+    }
+
+    /// Takes over what an accepted feed of a port changes, which is that port and the settings; the other port's record
+    /// is as it came, and copying it would be a good part of a short feed.
+    fn take_over(&mut self, port: u8, fed: &Board) {
+        match port {
+            0 => self.first = fed.first,
+            _ => self.second = fed.second,
+        }
+        self.settings = fed.settings;
     }
 }

@@ -13,12 +13,31 @@ pub struct Pair {
     pub page: Vec<u8>,
 }
 
+/// Compares boards whole; a difference is told by its part, since a board is long.
+pub fn same_board(library: &Board, plain: &Board) -> Outcome {
+    if library == plain {
+        return Ok(());
+    }
+    same("settings", &library.settings, &plain.settings)?;
+    same("held by port 0", &library.first.held, &plain.first.held)?;
+    same("held by port 1", &library.second.held, &plain.second.held)?;
+    same_bytes("bytes of port 0", &library.first.bytes, &plain.first.bytes)?;
+    same_bytes("bytes of port 1", &library.second.bytes, &plain.second.bytes)
+}
+
+fn same_bytes(what: &str, library: &[u8], plain: &[u8]) -> Outcome {
+    match library.iter().zip(plain).position(|(one, other)| one != other) {
+        None => Ok(()),
+        Some(at) => same(&format!("{what} from {at} on"), &library[at..260.min(at + 8)], &plain[at..260.min(at + 8)]),
+    }
+}
+
 /// Starts both on a page, whether they accept it or not. Gives the number too.
 pub fn start(calls: &impl Calls, page: &[u8]) -> Result<(u8, Pair), String> {
     let started = calls.start(page);
     let (number, plain) = plain::start(page);
     same("number of start", &started.number, &number)?;
-    same("board of start", &started.board, &records::board(&plain))?;
+    same_board(&started.board, &records::board(&plain))?;
     Ok((number, Pair { board: started.board, plain, page: page.to_vec() }))
 }
 
@@ -44,7 +63,7 @@ pub fn feed(calls: &impl Calls, pair: &mut Pair, given: &Feed) -> Result<(plain:
     same("saved", &fed.saved, &plain.saved)?;
     same("room", &room, &plain_room)?;
     same("page", &pair.page, &plain_page)?;
-    same("board", &fed.board, &records::board(&plain.board))?;
+    same_board(&fed.board, &records::board(&plain.board))?;
     pair.board = fed.board;
     pair.plain = plain.board;
     Ok((plain, room))
@@ -63,7 +82,7 @@ pub fn feed_wrapped(before: &Pair, after: &Pair, given: &Feed, fed: &plain::Fed,
         number => Err(Refusal::from_number(number).ok_or("a number of no refusal")?),
     };
     same("wrapped outcome", &outcome, &expected)?;
-    same("wrapped board", &board, &after.board)?;
+    same_board(&board, &after.board).map_err(|text| format!("wrapped: {text}"))?;
     same("wrapped room", &wrapped_room[..], room)?;
     same("wrapped page", &page, &after.page)
 }

@@ -243,15 +243,17 @@ fn plant(fault: Fault, seed: u64, tally: &mut Tally) {
     tally.check(found.is_err());
     match found {
         Ok(()) => println!("FAILED: the planted fault {fault:?} was not found in {group:?}"),
-        Err((place, text)) => println!("planted {fault:?}: found in {group:?}, case {place}\n  {}", cut(&text)),
+        Err((place, text)) => println!("planted {fault:?}: found in {group:?}, case {place}{}", shortest(&text)),
     }
 }
 
-/// The first lines of a text, so that a planted fault does not fill the screen.
-fn cut(text: &str) -> String {
-    let lines = text.lines().map(|line| line.chars().take(150).collect::<String>());
-    let lines: Vec<String> = lines.filter(|line| !line.contains("the library has")).take(6).collect();
-    lines.join("\n  ")
+/// How short the list of a difference became.
+fn shortest(text: &str) -> String {
+    let line = text.lines().find_map(|line| line.trim_start().strip_prefix("shortest: "));
+    match line.and_then(|line| line.split(',').next()) {
+        Some(size) => format!(", shrunk to {size}"),
+        None => String::new(),
+    }
 }
 
 fn main() -> ExitCode {

@@ -763,11 +763,19 @@ pub fn steps(rng: &mut Rng, page: &[u8], pieces: usize) -> Vec<Step> {
 pub trait Shrinkable: Clone + PartialEq {
     /// The bytes of which some may be dropped.
     fn bytes(&mut self) -> Option<&mut Vec<u8>>;
+
+    /// This one and the next as one, where that makes sense.
+    fn joined(&self, next: &Self) -> Option<Self>;
 }
 
 impl Shrinkable for Call {
     fn bytes(&mut self) -> Option<&mut Vec<u8>> {
         Some(&mut self.chunk)
+    }
+
+    fn joined(&self, next: &Call) -> Option<Call> {
+        let chunk = [&self.chunk[..], &next.chunk].concat();
+        (self.port == next.port).then_some(Call { port: self.port, chunk, room: next.room })
     }
 }
 
@@ -778,11 +786,18 @@ impl Shrinkable for Step {
             Step::Restart => None,
         }
     }
+
+    fn joined(&self, next: &Step) -> Option<Step> {
+        match (self, next) {
+            (Step::Feed(one), Step::Feed(other)) => one.joined(other).map(Step::Feed),
+            _ => None,
+        }
+    }
 }
 
-/// A failing list from which no feed and no byte can be dropped without it ceasing to fail: first feeds are dropped,
-/// many at once and then fewer, then bytes of the chunks, and again until neither helps. A list that does not fail
-/// comes back as it is.
+/// A failing list from which no feed and no byte can be dropped without it ceasing to fail, and in which no feed can be
+/// joined with the next: first feeds are dropped, many at once and then fewer, then bytes of the chunks, then feeds are
+/// joined, and again until nothing helps. A list that does not fail comes back as it is.
 pub fn shrink<T: Shrinkable>(list: &[T], fails: impl Fn(&[T]) -> bool) -> Vec<T> {
     let mut list = list.to_vec();
     if !fails(&list) {
@@ -796,6 +811,8 @@ pub fn shrink<T: Shrinkable>(list: &[T], fails: impl Fn(&[T]) -> bool) -> Vec<T>
         for place in 0..list.len() {
             list[place] = drop_bytes(&list, place, &fails);
         }
+
+        list = join_neighbours(list, &fails);
 
         if list == before {
             return list;
@@ -819,6 +836,23 @@ fn drop_bytes<T: Shrinkable>(list: &[T], place: usize, fails: impl Fn(&[T]) -> b
         fails(&other)
     });
     with(&fewer)
+}
+
+/// Joins each member with those after it while the list still fails.
+fn join_neighbours<T: Shrinkable>(mut list: Vec<T>, fails: impl Fn(&[T]) -> bool) -> Vec<T> {
+    let mut place = 0;
+    while place + 1 < list.len() {
+        let joined = list[place].joined(&list[place + 1]).map(|member| {
+            let mut other = list.clone();
+            other.splice(place..place + 2, [member]);
+            other
+        });
+        match joined.filter(|other| fails(other)) {
+            Some(shorter) => list = shorter,
+            None => place += 1,
+        }
+    }
+    list
 }
 
 /// Drops parts of a row from any place, the whole and halves first and single ones last, while the rest still fails.

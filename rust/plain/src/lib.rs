@@ -8,7 +8,7 @@
 //!
 //! | Section | Module |
 //! |---|---|
-//! | A message | [`message`] |
+//! | A message | [`message`](mod@message) |
 //! | The scan | [`scan`](mod@scan) for a whole stream, [`port`] for a feed |
 //! | Handling one message | [`handling`]; the command writer in [`writers`], the reply reader in [`readers`] |
 //! | The start-up page | [`page`]; starting in [`port`] |

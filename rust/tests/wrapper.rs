@@ -1,0 +1,163 @@
+//! The paper's sample lines through the wrapper, and every refusal.
+
+use ketphiroj::{
+    check_message, check_page, code, copy_body, factory_page, field_data, function, read_field, read_reply,
+    write_command, write_data, write_message, Board, Outcome, Refusal, Values, PAGE,
+};
+
+const BLANK: [u8; PAGE] = [0xFF; PAGE];
+
+/// The bytes of a text; "blanks are only for the eye".
+fn hex(text: &str) -> Vec<u8> {
+    let digits: Vec<u32> = text.chars().filter_map(|digit| digit.to_digit(16)).collect();
+    digits.chunks(2).map(|pair| (pair[0] * 16 + pair[1]) as u8).collect()
+}
+
+/// A board on a blank page, and the page.
+fn fresh() -> (Board, [u8; PAGE]) {
+    (Board::start(&BLANK).unwrap(), BLANK)
+}
+
+/// Feeds a chunk to port 0 until it is used up. Gives the replies.
+fn replies(board: &mut Board, mut chunk: &[u8], page: &mut [u8]) -> Vec<Vec<u8>> {
+    let mut replies = Vec::new();
+    loop {
+        let mut room = [0; Board::REPLY];
+        let outcome = board.feed(0, chunk, &mut room, page).unwrap();
+        chunk = &chunk[outcome.taken()..];
+        match outcome {
+            Outcome::Reported { reply, .. } => replies.push(room[..reply].to_vec()),
+            Outcome::UsedUp { .. } => return replies,
+        }
+    }
+}
+
+#[test]
+fn sample_lines() {
+    let lines = [
+        ("A5A5010202004F25", vec!["A5A5010480020200D3CF"]),
+        ("A5A50204070201025CF1", vec!["A5A5020480020700D9DF"]),
+        ("A5A5020701050100 01C2001D84", vec!["A5A5020480020100D3D3"]),
+        ("A5A502030801025A93", vec!["A5A5020780020800080103E9A4"]),
+        ("A5A501004B85", vec!["A5A5010480020003D4CE"]),
+        ("A5A5010202004F24", vec!["A5A5010480020201D4D0"]),
+        ("A5 A5A5010202004F25", vec!["A5A5A5048002020178A8", "A5A5010480020200D3CF"]),
+        ("A5A502040802010863FB", vec!["A5A5020480020804DEE5"]),
+        ("A5A503020200512D", vec!["A5A5030480020202D7DD"]),
+        ("", vec![]),
+    ];
+    for (given, expected) in lines {
+        let (mut board, mut page) = fresh();
+        let expected: Vec<Vec<u8>> = expected.into_iter().map(hex).collect();
+        assert_eq!(replies(&mut board, &hex(given), &mut page), expected, "{given}");
+        assert_eq!(page, BLANK, "{given}");
+    }
+}
+
+/// P6: a damaged Ping leaves seven bytes held, which an empty feed skips.
+#[test]
+fn damaged_ping() {
+    let (mut board, mut page) = fresh();
+    let mut room = [0x77; 16];
+    let outcome = board.feed(0, &hex("A5A5010202004F24"), &mut room, &mut page);
+    assert_eq!(outcome, Ok(Outcome::Reported { taken: 8, skipped: 1, saved: false, reply: 10 }));
+    assert_eq!(room[10..], [0x77; 6]);
+    assert_eq!(board.first.held, 7);
+    assert_eq!(board.feed(0, &[], &mut room, &mut page), Ok(Outcome::UsedUp { taken: 0, skipped: 7 }));
+    assert_eq!(board, fresh().0);
+}
+
+/// P8 and P12: saves.
+#[test]
+fn saves() {
+    let (mut board, mut page) = fresh();
+    let mut room = [0; 16];
+    let saved = board.feed(0, &hex("A5A50203010103 547F"), &mut room, &mut page);
+    assert_eq!(saved, Ok(Outcome::Reported { taken: 9, skipped: 0, saved: true, reply: 10 }));
+    assert_eq!(page[..8], hex("01 010404 0001C200"));
+    assert_eq!(page[8..], [0xFF; 56]);
+
+    let (mut board, mut page) = fresh();
+    for code in [code::GYROSCOPE, code::ACCELEROMETER, code::BAUD] {
+        let mut command = [0; 16];
+        let length = write_command(code, function::SAVE, 0, &mut command).unwrap();
+        assert_eq!(replies(&mut board, &command[..length], &mut page).len(), 1);
+    }
+    assert_eq!(page[..16], hex("03 010A04 070E01 080F01 0001C200 02 03"));
+    assert_eq!(page, factory_page());
+    assert_eq!(Values::read(&page), Values { baud: Some(115200), accelerometer: Some(2), gyroscope: Some(3) });
+}
+
+/// A refused feed leaves board, room and page as they were.
+#[test]
+fn refused_feeds() {
+    let (sound, _) = fresh();
+    let mut unsound = sound;
+    unsound.second.held = 261;
+    let mut not_allowed = sound;
+    not_allowed.settings.gyroscope = 8;
+    let cases = [
+        (2, unsound, 15, 63, Refusal::Port),
+        (0, unsound, 15, 63, Refusal::Unsound),
+        (1, not_allowed, 15, 63, Refusal::Unsound),
+        (0, sound, 15, 63, Refusal::Room),
+        (0, sound, 16, 63, Refusal::PageLength),
+        (0, sound, 16, 65, Refusal::PageLength),
+        (0, sound, 16, 64, Refusal::Page),
+    ];
+    for (port, given, room, page, refusal) in cases {
+        let mut board = given;
+        let (mut room, mut page) = (vec![0x11; room], vec![0x22; page]);
+        assert_eq!(board.feed(port, &hex("A5A5010202004F25"), &mut room, &mut page), Err(refusal));
+        assert_eq!(board, given);
+        assert!(room.iter().all(|&byte| byte == 0x11) && page.iter().all(|&byte| byte == 0x22));
+    }
+}
+
+#[test]
+fn refusals_of_the_other_calls() {
+    let mut room = [0; 300];
+    assert_eq!(Board::start(&BLANK[1..]), Err(Refusal::PageLength));
+    assert_eq!(check_page(&[0; 64]), Err(Refusal::Page));
+    assert_eq!(check_message(&hex("A5A5010202004F")), Err(Refusal::NotWhole));
+    assert_eq!(check_message(&hex("A5A5010202004F24")), Err(Refusal::Sums));
+    assert_eq!(read_reply(&hex("A5A5010202004F25")), Err(Refusal::Kind));
+    assert_eq!(read_field(&hex("A5A5010202004F25"), 0), Err(Refusal::Kind));
+    assert_eq!(write_message(0xA2, &[0; 256], &mut room), Err(Refusal::Payload));
+    assert_eq!(write_command(code::PING, 0, 0, &mut room[..7]), Err(Refusal::Room));
+    assert_eq!(write_command(code::BAUD, function::USE, 57600, &mut room), Err(Refusal::Command));
+    assert_eq!(write_data([0.0; 3], [0.0; 3], &mut room[..33]), Err(Refusal::Room));
+    assert_eq!(copy_body(&BLANK, &factory_page(), code::BAUD, &mut room[..3]), Err(Refusal::Room));
+    let data = |payload: &[u8]| {
+        let mut room = [0; 300];
+        let length = write_message(0xA2, payload, &mut room).unwrap();
+        room[..length].to_vec()
+    };
+    assert_eq!(read_field(&data(&[0x10, 2, 0]), 0), Err(Refusal::Fields));
+    assert_eq!(read_field(&data(&[0x10, 0, 0x81, 1, 0]), 0), Err(Refusal::FieldSize));
+    assert_eq!(field_data(&data(&[0x10, 0]), 1), Err(Refusal::NoField));
+    assert_eq!(field_data(&data(&[]), usize::MAX), Err(Refusal::NoField));
+}
+
+#[test]
+fn refusals_have_their_numbers() {
+    for (number, refusal) in (16..).zip(Refusal::ALL) {
+        assert_eq!(refusal.number(), number);
+        assert_eq!(Refusal::from_number(number), Some(refusal));
+    }
+    let others = (0..16).chain(29..=255);
+    assert!(others.into_iter().all(|number| Refusal::from_number(number).is_none()));
+}
+
+/// A field of the longest size, and one behind it.
+#[test]
+fn part_of_the_message() {
+    let mut payload = vec![0x10, 251];
+    payload.extend(0..251u8);
+    payload.extend([0x11, 0]);
+    let mut room = [0; 261];
+    assert_eq!(write_message(0xA2, &payload, &mut room), Ok(261));
+    assert_eq!(field_data(&room, 0).unwrap(), (0..251).collect::<Vec<u8>>());
+    assert_eq!(field_data(&room, 0).unwrap().as_ptr(), room[6..].as_ptr());
+    assert_eq!(field_data(&room, 1), Ok(&[][..]));
+}
