@@ -159,31 +159,13 @@ impl Board {
     /// # Ok::<(), Refusal>(())
     /// ```
     pub fn feed(&mut self, port: u8, chunk: &[u8], room: &mut [u8], page: &mut [u8]) -> Result<Outcome, Refusal> {
-        let fed = ffi::feed(port, *self, chunk, room, page);
+        let fed = ffi::feed_in_place(port, self, chunk, room, page);
         let (taken, skipped) = (fed.taken, fed.skipped);
         match fed.number {
-            0 => {
-                self.take_over(port, &fed.board);
-                // A reply is a message: its length byte says how long it is.
-                let reply = usize::from(room[3]) + 6;
-                Ok(Outcome::Reported { taken, skipped, saved: fed.saved, reply })
-            }
-            1 => {
-                self.take_over(port, &fed.board);
-                Ok(Outcome::UsedUp { taken, skipped })
-            }
-            // The board that a refusal gives back is the one that it got.
+            // A reply is a message: its length byte says how long it is.
+            0 => Ok(Outcome::Reported { taken, skipped, saved: fed.saved, reply: usize::from(room[3]) + 6 }),
+            1 => Ok(Outcome::UsedUp { taken, skipped }),
             number => Err(refusal_of(number)),
         }
-    }
-
-    /// Takes over what an accepted feed of a port changes, which is that port and the settings; the other port's record
-    /// is as it came, and copying it would be a good part of a short feed.
-    fn take_over(&mut self, port: u8, fed: &Board) {
-        match port {
-            0 => self.first = fed.first,
-            _ => self.second = fed.second,
-        }
-        self.settings = fed.settings;
     }
 }

@@ -38,6 +38,25 @@ pub struct Fed {
     pub board: Board,
 }
 
+/// What a feed in place answers. Where it is refused, the counts are 0, and the held count and the settings are the ones
+/// given.
+#[derive(Clone, Copy, Debug, PartialEq, Eq)]
+#[repr(C)]
+pub struct Stepped {
+    /// 0, 1, or 16 to 20.
+    pub number: u8,
+    /// Bytes taken from the chunk.
+    pub taken: usize,
+    /// Bytes that the scan skipped.
+    pub skipped: usize,
+    /// Whether a save was accepted.
+    pub saved: bool,
+    /// The bytes that the named port holds now.
+    pub held: usize,
+    /// The working values now.
+    pub settings: Settings,
+}
+
 /// What a writer answers.
 #[derive(Clone, Copy, Debug, PartialEq, Eq)]
 #[repr(C)]
@@ -114,6 +133,20 @@ extern "C" {
         page: *mut u8,
         page_length: usize,
     ) -> Fed;
+    fn ketphiroj_feed_in_place(
+        port: u8,
+        bytes: *mut u8,
+        bytes_length: usize,
+        first: usize,
+        second: usize,
+        settings: Settings,
+        chunk: *const u8,
+        chunk_length: usize,
+        room: *mut u8,
+        room_length: usize,
+        page: *mut u8,
+        page_length: usize,
+    ) -> Stepped;
     fn ketphiroj_check_message(message: *const u8, message_length: usize) -> u8;
     fn ketphiroj_write_message(
         kind: u8,
@@ -180,6 +213,35 @@ pub fn feed(port: u8, board: Board, chunk: &[u8], room: &mut [u8], page: &mut [u
             page.len(),
         )
     }
+}
+
+/// Feeds a chunk to a port of a board that stays where it is: only the named port's bytes are lent, and its held count and
+/// the settings are put back.
+#[inline]
+pub fn feed_in_place(port: u8, board: &mut Board, chunk: &[u8], room: &mut [u8], page: &mut [u8]) -> Stepped {
+    let (first, second, settings) = (board.first.held, board.second.held, board.settings);
+    let named = if port == 0 { &mut board.first } else { &mut board.second };
+    // SAFETY: `chunk` is valid for reads of its length, the port's bytes, `room` and `page` for reads and writes of
+    // theirs, and no two of them overlap, as their borrows say.
+    let stepped = unsafe {
+        ketphiroj_feed_in_place(
+            port,
+            named.bytes.as_mut_ptr(),
+            named.bytes.len(),
+            first,
+            second,
+            settings,
+            chunk.as_ptr(),
+            chunk.len(),
+            room.as_mut_ptr(),
+            room.len(),
+            page.as_mut_ptr(),
+            page.len(),
+        )
+    };
+    named.held = stepped.held;
+    board.settings = stepped.settings;
+    stepped
 }
 
 /// 0 for one whole message with right sums, else 21 or 22.
