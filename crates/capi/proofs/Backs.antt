@@ -13,8 +13,7 @@ use Rattle.word.specs.Word.{number}
 use Rattle.page.specs.declared.setting.Stored.{Stored}
 use Rattle.page.specs.declared.setting.Stored.the-variants.{Absent, Value}
 use Rattle.sample.specs.declared.axes.Axes.{Axes}
-use Rattle.sample.specs.declared.reader.Sample.the-variants.{Acceleration, Rate, Unknown}
-use Rattle.sample.specs.Axes.{floatOf, keptOn, keptOf, axesFrom, axesOf, restored}
+use Rattle.sample.specs.Axes.{keptOn, keptOf, axesFrom, axesOf, restored}
 use Rattle.sample.specs.Reader.{sampleOn, sampleOf, Found, sampleFound, readingOf, fieldRead}
 use Rattle.sample.specs.Theorems.{Kept32, Single}
 use Rattle.sample.proofs.AxesBytes.{Bytes, take-bytes, drop-bytes}
@@ -22,7 +21,7 @@ use Rattle.sample.proofs.Parts.{part-of-message}
 use Rattle.sample.proofs.Patterns.{bits-back}
 use Rattle.sample.proofs.RoundTrips.{written-is-read}
 use Rattle.capi.specs.Flat.{isThere, numberIn, storedFrom, flatAxes, flatOn, flatField}
-use Rattle.capi.specs.Theorems.{sampleBy, fieldReadFrom, FlatBack, Pattern, PatternsRead, PatternsBack}
+use Rattle.capi.specs.Theorems.{fieldReadFrom, FlatBack, Pattern, PatternsBack}
 
 stored-back : (s : Stored) → storedFrom (isThere s) (numberIn s) ≡ s
 stored-back Absent = refl
