@@ -1,15 +1,15 @@
 -- The laws of keeping bytes in place.
 use Prim.Native.Nat.{ℕ, zero, suc, _≤_, _<_, _-_, _+_}
 use native.Mathlib.Omega.{arith}
-use native.Mathlib.Decide.{decLt}
 use native.Mathlib.Numerals.{add-one}
 use native.Mathlib.Nat.{sub-self, zero-add}
 use mathlib.Core.Path.{_≡_, refl, ap, _∙_, sym}
 use mathlib.Core.List.{List, [], _∷_, _++_, append-nil, append-assoc}
 use lib.ListN.{length, take, drop, getD, set, replicate, length-drop, length-append, length-replicate, replicate-append-replicate, take-append-drop, drop-of-length-le}
-use lib.Seq.{paste-suc, getD-take, getD-drop, length-take-le, take-append-le, take-at, drop-cons, set-at, drop-length, append-snoc}
-use Rattle.message.proofs.Windows.{byte-held, byte-chunk}
+use lib.Seq.{paste-suc, getD-drop, length-take-le, take-append-le, take-append-add, take-take, take-at, drop-cons, drop-append-le, drop-append-add, drop-drop, set-at}
+use Rattle.message.proofs.Windows.{byte-chunk, drop-chunk}
 use Rattle.board.specs.Port.{padded}
+use Rattle.board.proofs.Starts.{drop-take}
 
 -- a turn of a copy to the front of an array
 pub fill-suc : (p z : List ℕ) (i x : ℕ) → i < length p → i < length z → x ≡ getD p i 0 → set (take i p ++ drop i z) i x ≡ take (i + 1) p ++ drop (i + 1) z
@@ -21,45 +21,56 @@ fill-suc p z i x h k e =
 pub length-part : (w : List ℕ) (from to : ℕ) → to ≤ length w → length (take (to - from) (drop from w)) ≡ to - from
 length-part w from to h = length-take-le (to - from) (drop from w) (rw length-drop (omega arith))
 
-pub part-byte : (w : List ℕ) (from n i x : ℕ) → i < n → x ≡ getD w (from + i) 0 → x ≡ getD (take n (drop from w)) i 0
-part-byte w from n i x h e = e ∙ rw (getD-take n (drop from w) i 0 h, getD-drop)
-
 module _ (b c : List ℕ) (held : ℕ) (few : held ≤ 260) (long : length b ≡ 260) where
   hl : length (take held b) ≡ held
   hl = length-take-le held b (omega arith)
 
-  pub held-left : (i : ℕ) → i < held → getD b i 0 ≡ getD (take held b ++ c) i 0
-  held-left i h = sym (getD-take held b i 0 h) ∙ byte-held (take held b) c i (rw hl h)
-
-  pub held-right : (i : ℕ) → held ≤ i → getD c (i - held) 0 ≡ getD (take held b ++ c) i 0
-  held-right i h = rw hl at (byte-chunk (take held b) c i (rw hl h))
-
   pub window-length : length (take held b ++ c) ≡ held + length c
   window-length = rw (length-append, hl)
 
--- the array part way through a copy in place
-module _ (b c : List ℕ) (held : ℕ) (few : held ≤ 260) (long : length b ≡ 260) (p : List ℕ) (i : ℕ) (in-p : i ≤ length p) (in-b : i ≤ 260) where
-  tl : length (take i p) ≡ i
-  tl = length-take-le i p in-p
+-- a byte that a move to the front has not written yet
+pub moved-at : (b s : List ℕ) (i j : ℕ) → i ≤ length s → i ≤ j → getD (take i s ++ drop i b) j 0 ≡ getD b j 0
+moved-at b s i j h k =
+    let t : length (take i s) ≡ i = length-take-le i s h in
+    let e : i + (j - i) ≡ j = omega arith in
+    sym (byte-chunk (take i s) (drop i b) j (rw t k)) ∙ rw (t, getD-drop, e)
 
-  pub mix-length : length (take i p ++ drop i b) ≡ 260
-  mix-length = rw (length-append, tl, length-drop) (omega arith)
+-- bringing n bytes of the window to the front: of the chunk alone, of those held alone, of both
+module _ (b c : List ℕ) (held from n : ℕ) (few : held ≤ 260) (long : length b ≡ 260) where
+  first-long : length (take held b) ≡ held
+  first-long = length-take-le held b (omega arith)
 
-  pub mix-long : (x : List ℕ) → x ≡ take i p ++ drop i b → length x ≡ 260
-  mix-long x e = ap length e ∙ mix-length
+  pub shift-chunk : held ≤ from → (y : List ℕ) → y ≡ take 0 b ++ take n (drop (from - held) c) ++ drop (0 + n) b → y ≡ take n (drop from (take held b ++ c)) ++ drop n b
+  shift-chunk h y e =
+      let d : drop (from - held) c ≡ drop from (take held b ++ c) = rw first-long at (drop-chunk (take held b) c from (rw first-long h)) in
+      e ∙ rw (zero-add, d)
 
-  mix-at : (j : ℕ) → i ≤ j → getD (take i p ++ drop i b) j 0 ≡ getD b j 0
-  mix-at j h =
-      let k : i + (j - i) ≡ j = omega arith in
-      sym (byte-chunk (take i p) (drop i b) j (rw tl h)) ∙ rw (tl, getD-drop, k)
+  -- the window from a held byte on
+  window-from : from ≤ held → drop from (take held b ++ c) ≡ take (held - from) (drop from b) ++ c
+  window-from h = drop-append-le from (take held b) c (rw first-long h) ∙ ap (λ (l : List ℕ). l ++ c) (drop-take from held b h (omega arith))
 
-  -- what is not yet written is as it was
-  pub mix-same : (j : ℕ) → i ≤ j → getD (take held (take i p ++ drop i b) ++ c) j 0 ≡ getD (take held b ++ c) j 0
-  mix-same j h = go (decLt j held)
-    where
-      go : Dec (j < held) → getD (take held (take i p ++ drop i b) ++ c) j 0 ≡ getD (take held b ++ c) j 0
-      go (yes k) = sym (held-left (take i p ++ drop i b) c held few mix-length j k) ∙ mix-at j h ∙ held-left b c held few long j k
-      go (no k) = sym (held-right (take i p ++ drop i b) c held few mix-length j (omega arith)) ∙ held-right b c held few long j (omega arith)
+  kept-long : from ≤ held → length (take (held - from) (drop from b)) ≡ held - from
+  kept-long h = length-take-le (held - from) (drop from b) (rw length-drop (omega arith))
+
+  pub shift-held : from < held → (k : ℕ) → k ≡ held - from → n ≤ k → (y : List ℕ) → y ≡ take n (drop from b) ++ drop n b → y ≡ take n (drop from (take held b ++ c)) ++ drop n b
+  shift-held h k ks s y e =
+      let f : from ≤ held = omega arith in
+      let t : take n (take (held - from) (drop from b) ++ c) ≡ take n (drop from b) =
+      take-append-le n (take (held - from) (drop from b)) c (rw (kept-long f) (omega (arith, ks, s))) ∙ take-take n (held - from) (drop from b) (omega (arith, ks, s)) in
+      e ∙ rw (window-from f, t)
+
+  pub shift-both : from < held → (k : ℕ) → k ≡ held - from → k < n → (x y : List ℕ) → x ≡ take k (drop from b) ++ drop k b
+      → y ≡ take k x ++ take (n - k) (drop 0 c) ++ drop (k + (n - k)) x → y ≡ take n (drop from (take held b ++ c)) ++ drop n b
+  shift-both h k ks s x y ex ey =
+      let f : from ≤ held = omega arith in
+      let l : length (take k (drop from b)) ≡ k = ap (λ (i : ℕ). length (take i (drop from b))) ks ∙ kept-long f ∙ sym ks in
+      let t : take k x ≡ take k (drop from b) = ap (take k) ex ∙ take-at (take k (drop from b)) (drop k b) k l in
+      let m : k + (n - k) ≡ n = omega arith in
+      let d : drop n x ≡ drop n b =
+      ap (drop n) ex ∙ ap (λ (i : ℕ). drop i (take k (drop from b) ++ drop k b)) (sym m) ∙ ap (λ (i : ℕ). drop (i + (n - k)) (take k (drop from b) ++ drop k b)) (sym l) ∙ drop-append-add (take k (drop from b)) (drop k b) (n - k) ∙ drop-drop (n - k) k b ∙ ap (λ (i : ℕ). drop i b) m in
+      let w : take n (take (held - from) (drop from b) ++ c) ≡ take k (drop from b) ++ take (n - k) c =
+      ap (λ (i : ℕ). take n (take i (drop from b) ++ c)) (sym ks) ∙ ap (λ (i : ℕ). take i (take k (drop from b) ++ c)) (sym m ∙ ap (λ (i : ℕ). i + (n - k)) (sym l)) ∙ take-append-add (take k (drop from b)) c (n - k) in
+      ey ∙ rw (m, t, d, window-from f, w)
 
 -- clearing: a turn, the start and the end
 pub clear-suc : (b : List ℕ) (n j : ℕ) → n ≤ j → j < length b
