@@ -18,6 +18,9 @@ _Static_assert(offsetof(ketphiroj_started, board) == 8 && sizeof(ketphiroj_start
 _Static_assert(offsetof(ketphiroj_fed, taken) == 8 && offsetof(ketphiroj_fed, skipped) == 16, "fed");
 _Static_assert(offsetof(ketphiroj_fed, saved) == 24 && offsetof(ketphiroj_fed, board) == 32, "fed");
 _Static_assert(sizeof(ketphiroj_fed) == 584, "fed");
+_Static_assert(offsetof(ketphiroj_stepped, skipped) == 16 && offsetof(ketphiroj_stepped, saved) == 24, "stepped");
+_Static_assert(offsetof(ketphiroj_stepped, held) == 32 && offsetof(ketphiroj_stepped, settings) == 40, "stepped");
+_Static_assert(sizeof(ketphiroj_stepped) == 48, "stepped");
 _Static_assert(offsetof(ketphiroj_written, length) == 8 && sizeof(ketphiroj_written) == 16, "written");
 _Static_assert(offsetof(ketphiroj_reply, has_value) == 4 && offsetof(ketphiroj_reply, value) == 8, "reply");
 _Static_assert(sizeof(ketphiroj_reply) == 12, "reply");
@@ -145,6 +148,26 @@ static void patterns_pass(void) {
     agree(ketphiroj_check_message(room, m.length) == 0, "a whole message");
 }
 
+/* A feed in place does to the board what a feed by value does: cut in two, on both ports, and refused. */
+static void in_place_is_by_value(void) {
+    static const uint8_t set[] = {0xA5, 0xA5, 0x02, 0x04, 0x07, 0x02, 0x01, 0x03, 0x5D, 0xF2};
+    ketphiroj_board kept = ketphiroj_start(page, sizeof page).board;
+    for (int i = 0; i < 6; i++) {
+        uint8_t port = (uint8_t) (i % 3);
+        const uint8_t *chunk = i < 3 ? set : set + 4;
+        size_t length = i < 3 ? 4 : sizeof set - 4;
+        ketphiroj_fed f = feed(port, kept, chunk, length);
+        ketphiroj_stepped s = ketphiroj_feed_board(port, &kept, chunk, length, room, sizeof room, page, sizeof page);
+        agree(s.number == f.number && s.taken == f.taken && s.skipped == f.skipped && s.saved == f.saved, "in place: answer");
+        agree(same_board(kept, f.board), "in place: board");
+    }
+    agree(kept.settings.accelerometer == 3, "in place: a setting");
+    uint8_t bytes[KETPHIROJ_PORT_ROOM - 1] = {0};
+    ketphiroj_stepped s = ketphiroj_feed_in_place(
+        0, bytes, sizeof bytes, 0, 0, kept.settings, set, sizeof set, room, sizeof room, page, sizeof page);
+    agree(s.number == KETPHIROJ_BAD_BOARD && s.taken == 0 && s.held == 0, "in place: an array of 259 bytes");
+}
+
 int main(void) {
     memset(page, 0xFF, sizeof page);
     refusal_returns_board();
@@ -152,6 +175,7 @@ int main(void) {
     ports_hold_bytes();
     values_pass();
     patterns_pass();
+    in_place_is_by_value();
     printf("layout: %d agree, %d differ\n", agreeing, differing);
     return differing != 0;
 }
