@@ -1,5 +1,5 @@
 /*
- * Ketphiroj's calls for C. Each is proved to answer exactly what its definition says, for every argument:
+ * Ketphiroj's calls for C. Each call of the library is proved to answer exactly what its definition says, for every argument:
  * crates/capi/src has the contracts, crates/NAME/specs the definitions.
  *
  * What a caller must see to, and nothing else:
@@ -32,7 +32,7 @@ enum {
 /* The numbers that calls answer. Where more than one would fit, a call answers the first in its own list below. */
 enum {
     KETPHIROJ_DONE = 0,
-    KETPHIROJ_CHUNK_USED_UP = 1, /* no whole message yet */
+    KETPHIROJ_CHUNK_USED_UP = 1, /* nothing more to report */
     KETPHIROJ_BAD_PORT = 16,     /* not 0 or 1 */
     KETPHIROJ_BAD_BOARD = 17,    /* a port holds over 260 bytes, or a working value is not allowed */
     KETPHIROJ_SHORT_ROOM = 18,   /* under 16 bytes for a feed, else shorter than what is to be written */
@@ -48,9 +48,9 @@ enum {
     KETPHIROJ_NO_COMMAND = 28    /* not a command that the board accepts */
 };
 
-/* ---- the board: kept by the caller, handed in and out by value */
+/* ---- the board: kept by the caller, fed by value or in place */
 
-/* The first `held` bytes are what the port could not decide yet; the others are 0. */
+/* The first `held` bytes are unread; after a start or an accepted feed the others are 0. */
 typedef struct {
     uint8_t bytes[KETPHIROJ_PORT_ROOM];
     size_t held;
@@ -76,7 +76,7 @@ typedef struct {
 typedef struct {
     uint8_t number;
     size_t taken;   /* bytes taken from the chunk: feed again from there */
-    size_t skipped; /* bytes that were no message's */
+    size_t skipped; /* bytes that the scan skipped */
     bool saved;     /* whether a save was accepted: the page was written */
     ketphiroj_board board;
 } ketphiroj_fed;
@@ -91,7 +91,7 @@ ketphiroj_started ketphiroj_start(const uint8_t *page, size_t page_length);
  * Feeds a chunk to port 0 or 1.
  * 0: a message was answered. Its reply is at the front of `room`: 4 bytes, payload, 2 bytes, where byte 3 is the length of the
  *    payload; the rest of the room is left alone. Where `saved`, the page was written anew, else it is as it was.
- * 1: the whole chunk was taken, and no message ended in it. Nothing was written.
+ * 1: the whole chunk was taken, and there is nothing more to report. Nothing was written.
  * 16, 17, 18, 19, 20: refused. Nothing was taken or written, and the board is the one given.
  */
 ketphiroj_fed ketphiroj_feed(
@@ -149,8 +149,8 @@ ketphiroj_written ketphiroj_write_message(
 
 /*
  * Writes a command. Codes: 0x02 Ping, 0x01 baud rate, 0x07 accelerometer range, 0x08 gyroscope range. Functions: 1 sets the
- * value, 2 asks for it, 3 saves it, 4 loads the saved one, 5 loads the factory's. The value is looked at with function 1 alone,
- * the function not with Ping. Numbers: 0; 28, 18.
+ * value, 2 asks for it, 3 saves it, 4 loads the saved one, 5 loads the factory's. With Ping neither function nor value
+ * is looked at; otherwise the value with function 1 alone. Numbers: 0; 28, 18.
  */
 ketphiroj_written ketphiroj_write_command(uint8_t code, uint8_t function, uint32_t value, uint8_t *room, size_t room_length);
 
@@ -213,7 +213,7 @@ uint8_t ketphiroj_write_page(ketphiroj_values values, uint8_t *page, size_t page
 
 /*
  * Copies the bytes under a code to the room's front: from the saved page if it has an entry, else from the factory page.
- * Number 0, with length 0 where neither has one; 18.
+ * Number 0, with length 0 where neither has one, or where it runs past its page's end; 18.
  */
 ketphiroj_written ketphiroj_copy_body(
     const uint8_t *saved, size_t saved_length, const uint8_t *factory, size_t factory_length, uint8_t code, uint8_t *room,

@@ -1,4 +1,4 @@
-//! The calls of the static library, one to one: numbers and records instead of results and enums.
+//! The calls of the static library: numbers and records instead of results and enums.
 //!
 //! This is the only module with unsafe code. Its functions are safe: a slice is lent to the library as a pointer and a
 //! length for the time of the call, and the library's contracts hold for every input.
@@ -10,7 +10,7 @@
 
 #![allow(unsafe_code)]
 
-use crate::board::{Board, Settings};
+use crate::board::{Board, Port, Settings};
 
 /// What starting answers. Where it is refused, the board has the factory settings and two fresh ports.
 #[derive(Clone, Copy, Debug, PartialEq, Eq)]
@@ -334,10 +334,12 @@ pub fn factory_page(room: &mut [u8]) -> Written {
 /// The layouts that the library's records have on x86-64.
 const _: () = {
     use std::mem::size_of;
+    assert!(size_of::<Port>() == 272);
     assert!(size_of::<Settings>() == 8);
     assert!(size_of::<Board>() == 552);
     assert!(size_of::<Started>() == 560);
     assert!(size_of::<Fed>() == 584);
+    assert!(size_of::<Stepped>() == 48);
     assert!(size_of::<Written>() == 16);
     assert!(size_of::<FlatReply>() == 12);
     assert!(size_of::<FlatField>() == 32);

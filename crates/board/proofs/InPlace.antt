@@ -12,12 +12,12 @@ use Rattle.board.specs.declared.board.Board.{Board}
 use Rattle.board.specs.declared.port.Port.{Port}
 use Rattle.board.specs.declared.feeding.Stepped.{Stepped}
 use Rattle.board.specs.Port.{portRoom, heldBytes, portHolding, portOf}
-use Rattle.board.specs.Feed.{PortStep, refuse, feedNumber, refusedFeeding, refusedStepping, stepOf, feedOn, acceptOn, feedOf, inPlace, heldOf, placeNumber, placeOn, placeOf}
+use Rattle.board.specs.Feed.{PortStep, refuse, feedNumber, refusedFeeding, refusedStepping, stepOf, feedOn, acceptOn, feedOf, inPlace, namedHeld, placeNumber, placeOn, placeOf}
 use Rattle.board.specs.AnyBoard.{putBack, InPlaceIsFeed}
 use Rattle.board.proofs.Places.{passes}
 use Rattle.board.proofs.Feedings.{SoundParts, passed-parts}
 
-pub held-second : (port first second : ℕ) → (port ≡ 0 → ⊥) → second ≡ heldOf port first second
+pub held-second : (port first second : ℕ) → (port ≡ 0 → ⊥) → second ≡ namedHeld port first second
 held-second zero first second h = absurd (h refl)
 held-second (suc p) first second h = refl
 
@@ -34,14 +34,14 @@ module _ (port : ℕ) (bytes : List ℕ) (first second : ℕ) (w : Settings) (ro
   unfolding placeNumber
   place-rest p h n e = rw (le-ltb 1 port p, eq-eqb (length bytes) 260 h) e
 
-  module _ (n : ℕ) (ns : n ≡ placeNumber port bytes first second w room page) (h : ℕ) (hs : h ≡ heldOf port first second) where
+  module _ (n : ℕ) (ns : n ≡ placeNumber port bytes first second w room page) (h : ℕ) (hs : h ≡ namedHeld port first second) where
     pub place-refused : (chunk : List ℕ) → (n ≡ 0 → ⊥)
         → record { step = record { number = n; taken = 0; skipped = 0; saved = false; held = h; settings = w }; bytes = bytes; room = room; page = page }
         ≡ placeOf port bytes first second w chunk room page
     unfolding placeOf
     place-refused chunk z = rw (hs, ← ns) (go n z)
       where
-        go : (n : ℕ) → (n ≡ 0 → ⊥) → refusedStepping n (heldOf port first second) w bytes room page ≡ placeOn n port bytes (heldOf port first second) w chunk room page
+        go : (n : ℕ) → (n ≡ 0 → ⊥) → refusedStepping n (namedHeld port first second) w bytes room page ≡ placeOn n bytes (namedHeld port first second) w chunk room page
         go zero z = absurd (z refl)
         go (suc n) z = refl
 
@@ -65,7 +65,7 @@ module _ (port : ℕ) (bytes : List ℕ) (first second : ℕ) (w : Settings) (ro
         p : SoundParts first second w
         p = passed-parts port first second w room page (passed-all z .1)
 
-        go : (port : ℕ) → heldOf port first second ≤ 260
+        go : (port : ℕ) → namedHeld port first second ≤ 260
         go zero = p .first-few
         go (suc q) = p .second-few
 
@@ -86,7 +86,7 @@ same-number port bytes first second w room page l = rw (eq-eqb (length bytes) po
     go true next = refl
     go false next = refl
 
-held-is : (port : ℕ) (b : Board) → heldOf port (b .first .held) (b .second .held) ≡ portOf port b .held
+held-is : (port : ℕ) (b : Board) → namedHeld port (b .first .held) (b .second .held) ≡ portOf port b .held
 held-is zero b = refl
 held-is (suc p) b = refl
 
@@ -105,6 +105,6 @@ in-place-is-feed port b chunk room page l =
     rw (same-number port (portOf port b .bytes) (b .first .held) (b .second .held) (b .settings) room page l, held-is port b)
     (go (feedNumber port (b .first .held) (b .second .held) (b .settings) room page))
   where
-    go : (n : ℕ) → putBack port b (placeOn n port (portOf port b .bytes) (portOf port b .held) (b .settings) chunk room page) ≡ acceptOn n port b chunk room page
+    go : (n : ℕ) → putBack port b (placeOn n (portOf port b .bytes) (portOf port b .held) (b .settings) chunk room page) ≡ acceptOn n port b chunk room page
     go zero = put-done port b (stepOf (heldBytes (portOf port b)) (b .settings) chunk room page)
     go (suc n) = put-refused port b (suc n) room page

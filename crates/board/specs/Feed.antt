@@ -137,9 +137,9 @@ inPlace s =
 -- ---- a feed in place, for a caller that keeps the board: the named port's array is lent, the rest goes by value
 
 -- The held count of the named port.
-abbrev pub heldOf : ℕ → ℕ → ℕ → ℕ
-heldOf zero first second = first
-heldOf (suc p) first second = second
+abbrev pub namedHeld : ℕ → ℕ → ℕ → ℕ
+namedHeld zero first second = first
+namedHeld (suc p) first second = second
 
 -- A refusal gives the held count and the settings back as they came.
 abbrev pub refusedStepping : ℕ → ℕ → Settings → List ℕ → List ℕ → List ℕ → Stepping
@@ -156,10 +156,10 @@ unfoldable pub placeNumber : ℕ → List ℕ → ℕ → ℕ → Settings → L
 placeNumber port bytes first second w room page =
     refuse (ltb 1 port) 16 (refuse (not (eqb (length bytes) portRoom)) 17 (feedNumber port first second w room page))
 
-abbrev pub placeOn : ℕ → ℕ → List ℕ → ℕ → Settings → List ℕ → List ℕ → List ℕ → Stepping
-placeOn zero port bytes held w chunk room page = inPlace (stepOf (take held bytes) w chunk room page)
-placeOn (suc n) port bytes held w chunk room page = refusedStepping (suc n) held w bytes room page
+abbrev pub placeOn : ℕ → List ℕ → ℕ → Settings → List ℕ → List ℕ → List ℕ → Stepping
+placeOn zero bytes held w chunk room page = inPlace (stepOf (take held bytes) w chunk room page)
+placeOn (suc n) bytes held w chunk room page = refusedStepping (suc n) held w bytes room page
 
 unfoldable pub placeOf : ℕ → List ℕ → ℕ → ℕ → Settings → List ℕ → List ℕ → List ℕ → Stepping
 placeOf port bytes first second w chunk room page =
-    placeOn (placeNumber port bytes first second w room page) port bytes (heldOf port first second) w chunk room page
+    placeOn (placeNumber port bytes first second w room page) bytes (namedHeld port first second) w chunk room page

@@ -9,7 +9,7 @@ ghost use Rattle.stream.specs.Seek.{seek, resume, skippedBy};
 ghost use Rattle.message.specs.Front.{front};
 ghost use Rattle.command.specs.Command.{commandOf};
 ghost use Rattle.board.specs.Port.{heldBytes, padded};
-ghost use Rattle.board.specs.Feed.{feedNumber, leftOf, stepOf, inPlace, feedOn, feedOf, heldOf, placeNumber, placeOf};
+ghost use Rattle.board.specs.Feed.{feedNumber, leftOf, stepOf, inPlace, feedOn, feedOf, namedHeld, placeNumber, placeOf};
 use crate::board::Board;
 use crate::board::Fed;
 use crate::keep::keep_part;
@@ -237,7 +237,7 @@ pub fn feed_in_place(
 }
 
 fn held_of(port: u8, first: usize, second: usize) -> usize
-    ensures { λ r. ⌜ r ≡ heldOf port first second ⌝ }
+    ensures { λ r. ⌜ r ≡ namedHeld port first second ⌝ }
 {
     if port == 0 { first } else { second }
 }

@@ -1,4 +1,4 @@
-// The board: starting and feeding. The board itself goes in and out by value: the caller keeps it.
+// The board: starting and feeding. The caller keeps it; it is fed by value, or in place.
 ghost use mathlib.Core.Path.{_≡_};
 ghost use Rattle.board.specs.Start.{startOf};
 ghost use Rattle.board.specs.Feed.{feedOf, placeOf};
@@ -19,7 +19,7 @@ pub extern "C" fn ketphiroj_start(page: &[u8]) -> Started
 
 // Feeds a chunk to port 0 or 1. Number 0: a message was answered, its reply stands at the front of `room`, and an accepted
 // save has written the page; the rest of the chunk, behind the bytes taken, is to be fed again. Number 1: the whole chunk
-// was taken and holds no end of a message. Nothing is written then, nor with a refusal (16 to 20), which returns the board
+// was taken, and there is nothing more to report. Nothing is written then, nor with a refusal (16 to 20), which returns the board
 // given.
 #[no_mangle]
 pub extern "C" fn ketphiroj_feed(

@@ -1,6 +1,7 @@
 // The library's calls for C and Rust: each under its plain name, on numbers, slices (pointer, then length) and structs of
-// fixed layout by value. No call trusts an argument: what is not in order is answered by a number of document 01. Lent
-// slices must not overlap where one of them is written; that alone is the caller's to see to.
+// fixed layout by value. No call trusts an argument: what is not in order is answered by a number of document 01. What a
+// caller must see to stands at the top of include/ketphiroj.h: pointers that hold, and slices that do not overlap where one of
+// them is written.
 mod feeding;
 mod flat;
 mod messages;

@@ -58,7 +58,7 @@ fn gather_found(number: u8, reply: &[u8; 16], saved: bool, used: usize, out: &mu
     gather_line(reply, saved, used, out)
 }
 
-// Feeds a piece until a feed answers 1. That a feed with another answer leaves fewer bytes, held or in the piece, is in the
+// Feeds a piece until a feed answers 1. That a feed which answers 0 leaves fewer bytes, held or in the piece, is in the
 // contract of `feed`.
 pub(crate) fn feed_all(start: Progress, piece: &[u8], page: &mut [u8], out: &mut [u8]) -> Progress {
     let mut p = start;

@@ -12,7 +12,7 @@ use listing::LONGEST_LINE;
 const TURNS: usize = MOST + 1;
 
 // How far a listing has come.
-struct Page {
+struct Progress {
     bench: Bench,
     taken: usize,
     skipped: usize,
@@ -47,8 +47,8 @@ fn say_heading(out: Output) -> Output {
 }
 
 // Feeds until a feed answers 1.
-fn feed_all(s: &[u8], out: Output) -> Page {
-    let mut page = Page {
+fn feed_all(s: &[u8], out: Output) -> Progress {
+    let mut p = Progress {
         bench: Bench::blank(),
         taken: 0,
         skipped: 0,
@@ -57,23 +57,23 @@ fn feed_all(s: &[u8], out: Output) -> Page {
     let mut turn = 0;
     while turn < TURNS {
         let mut room = [0u8; 16];
-        let step = page.bench
-            .feed(0, text::part(s, page.taken, s.len()), &mut room, 16);
+        let step = p.bench
+            .feed(0, text::part(s, p.taken, s.len()), &mut room, 16);
         let fed = step.fed;
-        page = page.after(step.bench, fed.taken, fed.skipped);
+        p = p.after(step.bench, fed.taken, fed.skipped);
         if fed.number != 0 {
-            return page;
+            return p;
         }
-        page = page.with_line(&room, fed.saved);
+        p = p.with_line(&room, fed.saved);
         turn += 1;
     }
-    page
+    p
 }
 
-impl Page {
+impl Progress {
     fn after(self, bench: Bench, taken: usize, skipped: usize) -> Self {
         let out = self.out;
-        Page {
+        Progress {
             bench,
             taken: std::num::wrapping_add_usize(self.taken, taken),
             skipped: std::num::wrapping_add_usize(self.skipped, skipped),
@@ -87,7 +87,7 @@ impl Page {
         listing::write_line(reply[2], reply[6], reply[7], saved, &mut line);
         let bench = self.bench;
         let out = say_line(&line, self.out);
-        Page {
+        Progress {
             bench,
             taken: self.taken,
             skipped: self.skipped,
@@ -96,9 +96,9 @@ impl Page {
     }
 }
 
-fn say_counts(page: Page) -> Output {
+fn say_counts(p: Progress) -> Output {
     let mut line = [0u8; LONGEST_COUNTS];
-    let port = page.bench.port(0);
-    listing::write_counts(page.taken as u64, page.skipped as u64, port.held, &mut line);
-    say_line(&line, page.out)
+    let port = p.bench.port(0);
+    listing::write_counts(p.taken as u64, p.skipped as u64, port.held, &mut line);
+    say_line(&line, p.out)
 }

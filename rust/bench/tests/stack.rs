@@ -133,7 +133,7 @@ fn stack_of_a_feed() {
         let (kept, passed) = (deepest(board, chunk, in_place), deepest(board, chunk, by_value));
         println!("{name:<28} {kept:>8} {passed:>8}");
         assert!(none < kept && kept < passed);
-        // The caller's board and a few frames; by value, three boards more.
+        // The caller's board and a few frames; by value, copies of it.
         assert!(kept < 3 << 10, "{name}: {kept}");
         assert!(passed < 6 << 10, "{name}: {passed}");
     }

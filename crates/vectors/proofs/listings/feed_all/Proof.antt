@@ -5,10 +5,10 @@ use Rattle.vectors.proofs.listings.feed_all.Statement.{statement}
 use Rattle.vectors.proofs.listings.feed_all.Tie as tie
 
 abbrev Inv-loop : tie.InvT-loop
-Inv-loop s page₀ turn₀ page turn = turn ≤ 1025
+Inv-loop s p₀ turn₀ p turn = turn ≤ 1025
 
 abbrev μ-loop : tie.MeasureT-loop
-μ-loop s page₀ turn₀ page turn = 1025 - turn
+μ-loop s p₀ turn₀ p turn = 1025 - turn
 
 blank-requires : tie.Need-blank-requires Inv-loop μ-loop
 blank-requires c κs = search needs
