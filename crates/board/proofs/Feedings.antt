@@ -138,6 +138,8 @@ module _ (held : List ℕ) (w : Settings) (chunk room page : List ℕ) where
 
   record StepTells (sought : Sought) (s : PortStep) : Type 0 where
     reported : s .number ≡ 0 → StepReply (s .room)
+    all-taken : s .number ≡ 1 → s .taken ≡ length chunk
+    no-save : s .number ≡ 1 → s .saved ≡ false
     room-same : s .number ≡ 1 → s .room ≡ room
     page-same : s .number ≡ 1 → s .page ≡ page
     settings-same : s .number ≡ 1 → s .settings ≡ w
@@ -183,6 +185,8 @@ module _ (held : List ℕ) (w : Settings) (chunk room page : List ℕ) where
           let s : StarvedAt front mostUndecided (held ++ chunk) k = subst (Agrees front mostUndecided (held ++ chunk)) e (cutting-harmless .agrees (held ++ chunk)) in
           record {
             reported = one-not-zero;
+            all-taken = λ z. refl;
+            no-save = λ z. refl;
             room-same = λ z. refl;
             page-same = λ z. refl;
             settings-same = λ z. refl;
@@ -192,6 +196,8 @@ module _ (held : List ℕ) (w : Settings) (chunk room page : List ℕ) where
           let s = cutting-harmless .found-sized (held ++ chunk) k n good e in
           record {
             reported = λ z. answer-reply (commandOf good (drop k (held ++ chunk))) large;
+            all-taken = zero-not-one;
+            no-save = zero-not-one;
             room-same = zero-not-one;
             page-same = zero-not-one;
             settings-same = zero-not-one;
@@ -263,6 +269,8 @@ module _ (port : ℕ) (b : Board) (chunk room page : List ℕ) where
     board-sound : isSound b ≡ true → isSound (f .answer .board) ≡ true
     page-stays : pageNumber page ≡ 0 → pageNumber (f .page) ≡ 0
     reported : f .answer .number ≡ 0 → StepReply (heldBytes (portOf port b)) (b .settings) chunk room page (f .room)
+    all-taken : f .answer .number ≡ 1 → f .answer .taken ≡ length chunk
+    no-save : f .answer .number ≡ 1 → f .answer .saved ≡ false
     room-same : f .answer .number ≡ 1 → f .room ≡ room
     page-same : f .answer .number ≡ 1 → f .page ≡ page
     settings-same : f .answer .number ≡ 1 → f .answer .board .settings ≡ b .settings
@@ -280,6 +288,8 @@ module _ (port : ℕ) (b : Board) (chunk room page : List ℕ) where
         board-sound = λ s. s;
         page-stays = λ p. p;
         reported = λ k. (let no : ⊥ = omega (arith, h, k) in absurd no);
+        all-taken = λ k. (let no : ⊥ = omega (arith, h, k) in absurd no);
+        no-save = λ k. refl;
         room-same = λ k. refl;
         page-same = λ k. refl;
         settings-same = λ k. refl;
@@ -306,6 +316,8 @@ module _ (port : ℕ) (b : Board) (chunk room page : List ℕ) where
         board-sound = λ e. with-sound port b (this .held) (this .settings) s few (k .settings-allowed);
         page-stays = λ e. sound-passes (this .page) (k .page-kept-sound);
         reported = t .reported;
+        all-taken = t .all-taken;
+        no-save = t .no-save;
         room-same = t .room-same;
         page-same = t .page-same;
         settings-same = λ e. with-settings port b (portHolding (this .held)) (this .settings) ∙ t .settings-same e;
@@ -344,7 +356,7 @@ feeds-keep port b chunk room page =
       refused = k .refused;
       ports = λ l. record { fed-port = k .fed-port l; other-port = k .other-port l };
       reported = λ e. (let r = k .reported e in record { reply = r .reply; whole = r .whole; fits = r .fits; room-after = r .room-after });
-      used-up = λ e. record { room-same = k .room-same e; page-same = k .page-same e; settings-same = k .settings-same e };
+      used-up = λ e. record { all-taken = k .all-taken e; no-save = k .no-save e; room-same = k .room-same e; page-same = k .page-same e; settings-same = k .settings-same e };
       sum = k .sum;
       saved = λ e. (let s = k .saved e in record { setting = s .setting; written = s .written });
       unsaved = k .unsaved;

@@ -69,6 +69,8 @@ module _ (port : ℕ) (b : Board) (chunk room page : List ℕ) where
 
   -- "Chunk used up, nothing more to report, nothing written."
   pub record NothingWritten : Type 0 where
+    pub all-taken : fed .answer .taken ≡ length chunk
+    pub no-save : fed .answer .saved ≡ false
     pub room-same : fed .room ≡ room
     pub page-same : fed .page ≡ page
     pub settings-same : fed .answer .board .settings ≡ b .settings
