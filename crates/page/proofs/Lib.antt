@@ -4,3 +4,4 @@ pub mod Pages
 pub mod Settings
 pub mod Sounds
 pub mod Stores
+pub mod Walks

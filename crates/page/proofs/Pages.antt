@@ -22,7 +22,7 @@ use Rattle.page.proofs.Settings.{or-true}
 
 -- ---- both of two tests
 
-both : (a b : Bool) → a && b ≡ true → (a ≡ true) × (b ≡ true)
+pub both : (a b : Bool) → a && b ≡ true → (a ≡ true) × (b ≡ true)
 both true true e = (refl, refl)
 both true false e = let z : _≡_ {A = ℕ} 0 1 = cc in absurd (omega arith)
 both false b e = let z : _≡_ {A = ℕ} 0 1 = cc in absurd (omega arith)
@@ -163,19 +163,19 @@ stored-back s (Value x) e = ap Value (value-back s x e)
 
 -- ---- all values allowed
 
-record Allowed (v : Values) : Type 0 where
+pub record Allowed (v : Values) : Type 0 where
   pub baud : storedAllowed Baud (v .baud) ≡ true
   pub accelerometer : storedAllowed Accelerometer (v .accelerometer) ≡ true
   pub gyroscope : storedAllowed Gyroscope (v .gyroscope) ≡ true
 
-allowed-each : (v : Values) → allAllowed v ≡ true → Allowed v
+pub allowed-each : (v : Values) → allAllowed v ≡ true → Allowed v
 unfolding allAllowed
 allowed-each v e =
     let p = both (storedAllowed Baud (v .baud) && storedAllowed Accelerometer (v .accelerometer)) (storedAllowed Gyroscope (v .gyroscope)) e in
     let q = both (storedAllowed Baud (v .baud)) (storedAllowed Accelerometer (v .accelerometer)) (p .0) in
     record { baud = q .0; accelerometer = q .1; gyroscope = p .1 }
 
-each-allowed : (v : Values) → Allowed v → allAllowed v ≡ true
+pub each-allowed : (v : Values) → Allowed v → allAllowed v ≡ true
 unfolding allAllowed
 each-allowed v h = rw (h .baud, h .accelerometer, h .gyroscope)
 
@@ -235,7 +235,7 @@ sound-is-writing page e =
 
 -- ---- a save
 
-with-allowed : (v : Values) (s : Setting) (x : ℕ) → Allowed v → allowed s x ≡ true → Allowed (withValue v s x)
+pub with-allowed : (v : Values) (s : Setting) (x : ℕ) → Allowed v → allowed s x ≡ true → Allowed (withValue v s x)
 with-allowed v Baud x h e = record { baud = e; accelerometer = h .accelerometer; gyroscope = h .gyroscope }
 with-allowed v Accelerometer x h e = record { baud = h .baud; accelerometer = e; gyroscope = h .gyroscope }
 with-allowed v Gyroscope x h e = record { baud = h .baud; accelerometer = h .accelerometer; gyroscope = e }

@@ -3,4 +3,5 @@ pub mod Draft
 pub mod Page
 pub mod Lookup
 pub mod Sound
+pub mod Walk
 pub mod Theorems

@@ -112,7 +112,7 @@ fn held_value(page: &[u8], setting: Setting) -> Stored
     Stored::Value(word::number_of(bytes))
 }
 
-// The values that a page holds: of any bytes, so that a page can be tested by them.
+// The values that a page holds: of any bytes.
 pub fn values_of(page: &[u8]) -> Values
     ensures { λ r. ⌜ r ≡ valuesIn (now (page .entry)) ⌝ }
 {
@@ -136,7 +136,7 @@ fn stored_allowed(setting: Setting, stored: Stored) -> bool
 }
 
 // Whether each value that is there is allowed.
-pub(crate) fn all_allowed(values: Values) -> bool
+fn all_allowed(values: Values) -> bool
     ensures { λ r. ⌜ r ≡ allAllowed values ⌝ }
 {
     let baud = values.baud;
@@ -167,8 +167,8 @@ fn present(stored: Stored) -> u8
     }
 }
 
-// Where the next entry and the next body of a page that is being written go. The page itself is filled in place: the test
-// of a page makes a writing too, at every feed, and a page handed on by value would be copied for each entry.
+// Where the next entry and the next body of a page that is being written go. The page itself is filled in place: handed on
+// by value it would be copied for each entry.
 struct Places {
     at: u8,
     start: u8,
@@ -243,7 +243,7 @@ fn put_stored(page: &mut [u8; 64], places: Places, setting: Setting, stored: Sto
 }
 
 // The page that keeps these values.
-pub(crate) fn written(values: Values) -> [u8; 64]
+fn written(values: Values) -> [u8; 64]
     ensures { λ r. ⌜ r ≡ writing values ⌝ }
 {
     let baud = values.baud;

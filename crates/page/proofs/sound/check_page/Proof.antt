@@ -1,6 +1,9 @@
--- `page::sound::check_page` meets its contract: two numbers, the blank page, and the page that is the writing of its values.
+-- `page::sound::check_page` meets its contract: two numbers, the blank page, and the page with entries.
+use Prim.Native.Nat.{ℕ, _<_}
+use native.Mathlib.Omega.{arith}
+use lib.ListN.{getD}
 use borrow.Author.Needs.{needs}
-use Rattle.page.proofs.Sounds.{other-size, blank-sound, blank-not, value-refused, page-same, page-other}
+use Rattle.page.proofs.Sounds.{other-size, blank-sound, blank-not, entries-sound, entries-not}
 use Rattle.page.proofs.sound.check_page.Statement.{statement}
 use Rattle.page.proofs.sound.check_page.Tie as tie
 
@@ -10,11 +13,8 @@ returns c = search (other-size, needs)
 shared-slice-read-if2 : tie.Need-shared-slice-read-if2
 shared-slice-read-if2 c = search needs
 
-slice-aggregate-same-page : tie.Need-slice-aggregate-same-page
-slice-aggregate-same-page c = search needs
-
-same-page-requires : tie.Need-same-page-requires
-same-page-requires c κs = search needs
+blank-requires : tie.Need-blank-requires
+blank-requires c κs = search needs
 
 returns-2 : tie.Need-returns-2
 returns-2 c = search (blank-sound, needs)
@@ -22,29 +22,18 @@ returns-2 c = search (blank-sound, needs)
 returns-3 : tie.Need-returns-3
 returns-3 c = search (blank-not, needs)
 
-values-of-requires : tie.Need-values-of-requires
-values-of-requires c κs = search needs
-
-all-allowed-requires : tie.Need-all-allowed-requires
-all-allowed-requires c κs = search needs
+entries-right-requires : tie.Need-entries-right-requires
+entries-right-requires c κs = search needs
 
 returns-4 : tie.Need-returns-4
-returns-4 c = search (value-refused, needs)
-
-written-requires : tie.Need-written-requires
-written-requires c κs = search needs
-
-slice-aggregate-same-page-2 : tie.Need-slice-aggregate-same-page-2
-slice-aggregate-same-page-2 c = search needs
-
-same-page-requires-2 : tie.Need-same-page-requires-2
-same-page-requires-2 c κs = search needs
+returns-4 c =
+    let p = c .before .before .before in
+    let page = p .before .before .before .args .page .now in
+    let bytes : (k : ℕ) → getD page k 0 < 256 = λ k. omega (arith, p .shared-slice-known2 .given k) in
+    search (entries-sound, needs)
 
 returns-5 : tie.Need-returns-5
-returns-5 c = search (page-same, needs)
-
-returns-6 : tie.Need-returns-6
-returns-6 c = search (page-other, needs)
+returns-5 c = search (entries-not, needs)
 
 pub check-page-spec : {M : Type 1} → statement M
 check-page-spec =
@@ -52,15 +41,9 @@ check-page-spec =
     (tie.spec
     returns
     shared-slice-read-if2
-    slice-aggregate-same-page
-    same-page-requires
+    blank-requires
     returns-2
     returns-3
-    values-of-requires
-    all-allowed-requires
+    entries-right-requires
     returns-4
-    written-requires
-    slice-aggregate-same-page-2
-    same-page-requires-2
-    returns-5
-    returns-6)
+    returns-5)
