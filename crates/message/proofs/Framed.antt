@@ -2,7 +2,7 @@
 use mathlib.Core.Path.{_≡_, refl, sym, _∙_}
 use mathlib.Core.Bool.{Bool, true, false, _&&_}
 use mathlib.Core.List.{List, [], _∷_, _++_}
-use Prim.Native.Nat.{ℕ, _+_, _≤_, _<_}
+use Prim.Native.Nat.{ℕ, _+_, _≤_}
 use native.Mathlib.Omega.{arith}
 use lib.Dec.{eqb}
 use lib.ListN.{length, List·getD-append}
@@ -11,10 +11,9 @@ use Rattle.stream.specs.declared.Sought.the-variants.{Starved, Found}
 use Rattle.stream.specs.declared.Verdict.the-variants.{Whole}
 use Rattle.stream.specs.Framing.{Framing}
 use Rattle.stream.specs.Seek.{seek}
-use Rattle.stream.specs.Cutting.{Cutting, StarvedAt, Sized}
 use Rattle.stream.proofs.Framings.{Header, framing, IsWhole, is-whole}
 use Rattle.stream.proofs.Cuts.{cutting, starved-is}
-use Rattle.message.specs.Message.{lengthOf, sumsRight}
+use Rattle.message.specs.Message.{sumsRight}
 use Rattle.message.specs.Front.{marked, opens, sizeOf, front, mostUndecided}
 use Rattle.message.specs.Theorems.{CuttingHarmless}
 

@@ -3,18 +3,18 @@ use Prim.Native.Nat.{ℕ, suc, _+_, _-_, _%_, _≤_, _<_}
 use native.Mathlib.Omega.{arith}
 use native.Mathlib.Decide.{decLt}
 use native.Mathlib.Numerals.{add-one}
-use native.Mathlib.Nat.{add-zero}
 use mathlib.Core.Path.{_≡_, refl, ap, _∙_, sym}
-use mathlib.Core.Bool.{Bool, true, false, _&&_}
-use mathlib.Core.List.{List, [], _∷_, _++_}
+use mathlib.Core.Bool.{Bool, true, false}
+use mathlib.Core.List.{List, [], _∷_}
 use lib.ListN.{length, take, drop, getD, length-drop, drop-of-length-le}
 use lib.Seq.{drop-cons, getD-drop}
-use lib.Dec.{eqb, leb}
 use borrow.Author.Tests.{eq-eqb, ne-eqb, le-leb, lt-leb}
 use Rattle.stream.specs.declared.Verdict.{Verdict}
 use Rattle.stream.specs.declared.Verdict.the-variants.{Skip, Undecided, Whole}
-use Rattle.message.specs.Message.{lengthOf, sumsRight}
-use Rattle.message.specs.Front.{marked, opens, sizeOf, front}
+use Rattle.stream.specs.Seek.{beyond, seek}
+use Rattle.stream.proofs.Seeks.{seek-skips}
+use Rattle.message.specs.Message.{sumsRight}
+use Rattle.message.specs.Front.{opens, sizeOf, front}
 
 -- ---- by the opening and the size
 
@@ -98,3 +98,9 @@ module _ (w : List ℕ) (at : ℕ) (d : Verdict) (is : d ≡ front (drop at w)) 
       go : Dec (at < length w) → at < length w
       go (yes h) = h
       go (no h) = let u = not-there w at (omega arith) d is in let z : _≡_ {A = ℕ} 0 1 = cc in absurd (omega arith)
+
+-- ---- a loop that passes over what is not A5
+
+pub mark-passes : (w : List ℕ) (i : ℕ) → i < length w → (getD w i 0 ≡ 0xA5 → ⊥) → seek front w ≡ beyond i (seek front (drop i w))
+    → seek front w ≡ beyond (i + 1) (seek front (drop (i + 1) w))
+mark-passes w i h n inv = seek-skips front w i Skip (front-skip-here w i h n) h refl inv

@@ -2,17 +2,16 @@
 use Prim.Native.Nat.{ℕ, _+_, _%_, _≤_}
 use native.Mathlib.Omega.{arith}
 use mathlib.Core.Path.{_≡_, refl, sym, _∙_, ap}
-use mathlib.Core.Bool.{Bool, true, false, _&&_}
+use mathlib.Core.Bool.{Bool, true, false}
 use mathlib.Core.List.{List, [], _∷_}
 use lib.Dec.{eqb}
-use lib.ListN.{length, take, drop, getD}
+use lib.ListN.{length, take, getD}
 use lib.Seq.{getD-take, take-take, length-take-le}
 use borrow.Author.Tests.{eqb-true}
-use Rattle.stream.specs.declared.Verdict.the-variants.{Whole}
 use Rattle.stream.proofs.Bools.{and-both}
 use Rattle.stream.proofs.Framings.{IsWhole}
 use Rattle.message.specs.Message.{sumsRight}
-use Rattle.message.specs.Front.{opens, sizeOf, front}
+use Rattle.message.specs.Front.{opens}
 use Rattle.message.specs.Whole.{wholeNumber}
 use Rattle.message.specs.Theorems.{wholeOn, ReportedIsWhole}
 use Rattle.message.proofs.Framed.{header, whole-told}

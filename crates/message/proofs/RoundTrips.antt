@@ -3,14 +3,14 @@ use Prim.Native.Nat.{ℕ, suc, _+_, _-_, _%_, _≤_, _<_}
 use native.Mathlib.Omega.{arith}
 use native.Mathlib.Numerals.{add-one}
 use mathlib.Core.Path.{_≡_, refl, ap, _∙_, sym}
-use mathlib.Core.Bool.{Bool, true, false, _&&_, not}
+use mathlib.Core.Bool.{Bool, true, false}
 use mathlib.Core.List.{List, [], _∷_, _++_}
 use lib.Dec.{eqb, ltb}
 use lib.ListN.{length, take, drop, getD, length-append, take-append-drop, drop-of-length-le}
 use lib.Seq.{take-at, drop-at, getD-at, getD-append-add, take-length, length-take-le, drop-cons}
 use borrow.Author.Tests.{ltb-false, eqb-true, eq-eqb}
 use Rattle.stream.specs.declared.Verdict.the-variants.{Whole}
-use Rattle.stream.specs.Scan.{reported, messageAt, events}
+use Rattle.stream.specs.Scan.{reported, events}
 use Rattle.stream.proofs.Bools.{and-both}
 use Rattle.message.specs.Fletcher.{sums}
 use Rattle.message.specs.Message.{summedBytes, withSums, messageOf, typeOf, lengthOf, payloadOf, headed, sumsRight}

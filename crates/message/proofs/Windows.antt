@@ -1,9 +1,9 @@
 -- The laws of held bytes and a chunk, as one row of bytes.
 use Prim.Native.Nat.{ℕ, _+_, _-_, _%_, _≤_, _<_}
 use native.Mathlib.Omega.{arith}
-use mathlib.Core.Path.{_≡_, refl, ap, _∙_, sym}
+use mathlib.Core.Path.{_≡_, ap, _∙_, sym}
 use mathlib.Core.Bool.{Bool}
-use mathlib.Core.List.{List, [], _∷_, _++_}
+use mathlib.Core.List.{List, _++_}
 use lib.ListN.{length, take, drop, getD, length-drop, length-append, List·getD-append, List·getD-eq-default}
 use lib.Seq.{getD-append-add, drop-append-add, drop-append-le, take-append-le, take-append-add, take-all, drop-append-seam}
 use Rattle.stream.specs.declared.Sought.{Sought}

@@ -3,16 +3,14 @@ use Prim.Native.Nat.{ℕ, zero, suc, _+_, _-_, _≤_, _<_}
 use native.Mathlib.Omega.{arith}
 use native.Mathlib.Numerals.{add-one}
 use mathlib.Core.Path.{_≡_, refl, ap, _∙_, sym}
-use mathlib.Core.List.{List, [], _∷_, _++_, append-assoc}
-use lib.Dec.{ltb}
-use lib.ListN.{length, getD, take, drop, set, length-append, length-drop}
-use lib.Seq.{sets, sets-eq, paste, take-length, take-at, drop-append-add, drop-drop, drop-at}
+use mathlib.Core.List.{List, [], _∷_, _++_}
+use lib.ListN.{length, getD, take, drop, set, length-append}
+use lib.Seq.{sets, sets-eq, paste, take-length, take-at, drop-append-add, drop-drop}
 use borrow.Author.Tests.{lt-ltb, le-ltb}
 use Rattle.message.specs.declared.fletcher.Sums.{Sums}
-use Rattle.message.specs.declared.write.Written.{Written}
 use Rattle.message.specs.Fletcher.{noSums, sumsFrom, sums}
 use Rattle.message.specs.Message.{summedBytes, withSums, messageOf}
-use Rattle.message.specs.Write.{Writing, refusedWriting, doneWriting, writingOf, plainWriting}
+use Rattle.message.specs.Write.{refusedWriting, writingOf, plainWriting}
 
 pub message-length : (kind : ℕ) (payload : List ℕ) → length (messageOf kind payload) ≡ length payload + 6
 unfolding messageOf

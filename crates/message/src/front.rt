@@ -2,7 +2,7 @@
 ghost use mathlib.Core.Path.{_≡_};
 ghost use Prim.Native.Nat.{_+_, _%_, _≤_};
 ghost use lib.ListN.{length, take, drop};
-ghost use Rattle.stream.specs.Seek.{seek};
+ghost use Rattle.stream.specs.Seek.{beyond, seek};
 ghost use Rattle.message.specs.Message.{sumsRight};
 ghost use Rattle.message.specs.Front.{front};
 use crate::fletcher::Sums;
@@ -57,15 +57,31 @@ pub fn front_at(s: &[u8], at: usize) -> Verdict
     Verdict::Whole(n, sums_right(s, at, n))
 }
 
+// The next A5 from `from` on, or the end: what stands before it is skipped. It is a loop of its own, since noise is passed over
+// here, and a loop with a message's tests in it is slower.
+fn next_mark(s: &[u8], from: usize) -> usize
+    requires { ⌜ (from ≤ length (now s)) × (seek front (now s) ≡ beyond from (seek front (drop from (now s)))) ⌝ }
+    ensures { λ r. ⌜ (from ≤ r) × (r ≤ length (now (s .entry))) × (seek front (now (s .entry)) ≡ beyond r (seek front (drop r (now (s .entry))))) ⌝ }
+{
+    let mut i = from;
+    while i < s.len() {
+        if s[i] == 0xA5 {
+            return i;
+        }
+        i += 1;
+    }
+    i
+}
+
 // Where the seek through `s` ends.
 pub fn seek(s: &[u8]) -> Sought
     ensures { λ r. ⌜ r ≡ seek front (now (s .entry)) ⌝ }
 {
-    let mut at = 0;
+    let mut at = next_mark(s, 0);
     loop {
         match front_at(s, at) {
             Verdict::Skip => {
-                at += 1;
+                at = next_mark(s, at + 1);
             }
             Verdict::Undecided => {
                 return Sought::Starved(at);

@@ -4,7 +4,6 @@ use native.Mathlib.Omega.{arith}
 use Prim.Native.Nat.{_-_, _<_, _≤_}
 use mathlib.Core.Path.{_≡_}
 use lib.ListN.{length, drop}
-use denote.Ref.{now}
 use Rattle.stream.specs.Seek.{beyond, seek}
 use Rattle.stream.proofs.Seeks.{seek-starts, seek-skips, seek-starves, seek-finds}
 use Rattle.message.specs.Front.{front}
@@ -18,8 +17,11 @@ Inv-loop s at₀ at = (at ≤ length s) × (seek front s ≡ beyond at (seek fro
 abbrev μ-loop : tie.MeasureT-loop
 μ-loop s at₀ at = length s - at
 
+next-mark-requires : tie.Need-next-mark-requires Inv-loop μ-loop
+next-mark-requires c κs = (omega arith, seek-starts front _)
+
 loop-holds : tie.Need-loop-holds Inv-loop μ-loop
-loop-holds c = (omega arith, seek-starts front _)
+loop-holds c = search needs
 
 front-at-requires : tie.Need-front-at-requires Inv-loop μ-loop
 front-at-requires c κs = search needs
@@ -27,17 +29,20 @@ front-at-requires c κs = search needs
 enum-told : tie.Need-enum-told Inv-loop μ-loop
 enum-told c = search needs
 
-there : (c : tie.After-enum-told Inv-loop μ-loop) → c .before .before .before .loop .at < length (c .before .before .before .before .before .args .s .now)
+there : (c : tie.After-enum-told Inv-loop μ-loop) → c .before .before .before .loop .at < length (c .before .before .before .before .before .before .args .s .now)
 there c = search (skip-there, needs)
 
-add-at : tie.Need-add-at Inv-loop μ-loop
-add-at c = let h = there c in omega arith
+add-next-mark : tie.Need-add-next-mark Inv-loop μ-loop
+add-next-mark c = let h = there c in omega arith
+
+next-mark-requires-2 : tie.Need-next-mark-requires-2 Inv-loop μ-loop
+next-mark-requires-2 c κs = (let h = there c in omega arith, search (seek-skips, skip-there, needs))
 
 loop-less : tie.Need-loop-less Inv-loop μ-loop
-loop-less c = let h = there c in omega arith
+loop-less c = let h = there (c .before) in omega arith
 
 loop-again : tie.Need-loop-again Inv-loop μ-loop
-loop-again c = (let h = there c in omega arith, search (seek-skips, skip-there, needs))
+loop-again c = search needs
 
 enum-told-2 : tie.Need-enum-told-2 Inv-loop μ-loop
 enum-told-2 c = search needs
@@ -57,10 +62,12 @@ seek-spec =
     (tie.spec
     Inv-loop
     μ-loop
+    next-mark-requires
     loop-holds
     front-at-requires
     enum-told
-    add-at
+    add-next-mark
+    next-mark-requires-2
     loop-less
     loop-again
     enum-told-2
