@@ -1,5 +1,5 @@
 -- Demand 1: any feed of any board, and lists of feeds from any sound board.
-use mathlib.Core.Bool.{Bool, true, false, _&&_, _||_, not}
+use mathlib.Core.Bool.{Bool, true, false, _||_, not}
 use mathlib.Core.List.{List, [], _∷_, _++_}
 use mathlib.Core.Option.{Option, none, some}
 use mathlib.Core.Path.{_≡_, refl, sym, ap, subst, _∙_}
@@ -17,7 +17,7 @@ use Rattle.stream.specs.Scan.{goodAt}
 use Rattle.stream.specs.Seek.{seek, resume, skippedBy}
 use Rattle.stream.specs.Cutting.{Agrees, StarvedAt}
 use Rattle.message.specs.Front.{front, mostUndecided}
-use Rattle.message.specs.Whole.{wholeNumber}
+use Rattle.message.specs.Whole.{wholeNumber, refuse}
 use Rattle.message.proofs.Framed.{cutting-harmless}
 use Rattle.message.proofs.RoundTrips.{written-is-read}
 use Rattle.page.specs.declared.setting.Setting.{Setting}
@@ -39,9 +39,9 @@ use Rattle.board.specs.declared.board.Started.{Started}
 use Rattle.board.specs.declared.port.Port.{Port}
 use Rattle.board.specs.Port.{portRoom, heldBytes, portHolding, portOf, withPort}
 use Rattle.board.specs.Start.{factorySettings, freshBoard, startOn, startOf}
-use Rattle.board.specs.Feed.{Feeding, PortStep, refuse, unsound, feedNumber, refusedFeeding, leftOf, stepOn, stepOf, feedOn, acceptOn, feedOf}
-use Rattle.board.specs.Runs.{Call, callsFrom}
-use Rattle.board.specs.AnyBoard.{isSound, otherPort, goodLength, FirstNumber, FirstNumbers, PortsAfter, PageSaved, ReplyIn, NothingWritten, FeedKeeps, FeedsKeep, StartKeeps, StartsKeep, runNumber, runNumbers, StaySound, RunsStaySound}
+use Rattle.board.specs.Feed.{Feeding, PortStep, unsound, feedNumber, refusedFeeding, leftOf, stepOn, stepOf, feedOn, acceptOn, feedOf}
+use Rattle.board.specs.Runs.{callsFrom}
+use Rattle.board.specs.AnyBoard.{isSound, otherPort, goodLength, FirstNumber, FirstNumbers, FeedsKeep, StartsKeep, runNumber, RunsStaySound}
 use Rattle.board.proofs.Follows.{holding}
 use Rattle.board.proofs.Reckons.{page-sound}
 use Rattle.board.proofs.Places.{passes, resume-past}

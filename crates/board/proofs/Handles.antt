@@ -1,5 +1,5 @@
 -- Handling on the reckoning's values and on the board's settings and page go together.
-use mathlib.Core.Bool.{Bool, true, false, not}
+use mathlib.Core.Bool.{true}
 use mathlib.Core.List.{List}
 use mathlib.Core.Option.{Option, none, some}
 use mathlib.Core.Path.{_≡_, refl, sym, ap, _∙_, fun-ext}
@@ -8,22 +8,20 @@ use lib.Dec.{eqb}
 use lib.ListN.{length}
 use borrow.Author.Tests.{eq-eqb}
 use Rattle.stream.specs.Scan.{Message}
-use Rattle.history.specs.Reckoning.{Outcome}
-use Rattle.history.specs.Program.{Tests, passing}
+use Rattle.history.specs.Program.{passing}
 use Rattle.history.specs.Theorems.{Handled, Handles}
 use Rattle.page.specs.declared.setting.Setting.{Setting}
 use Rattle.page.specs.declared.setting.Values.{Values}
 use Rattle.page.specs.Settings.{allowed, factoryValue}
 use Rattle.page.specs.Page.{storedIn, withValue, allAllowed, writing, pageSize}
-use Rattle.page.specs.Lookup.{valuesIn}
 use Rattle.page.specs.Sound.{sound, savedPage}
 use Rattle.page.specs.Theorems.{valueOr}
 use Rattle.page.proofs.Pages.{writing-size, read-back, writing-sound}
 use Rattle.command.specs.declared.settings.Settings.{Settings}
 use Rattle.command.specs.declared.command.Command.{Command}
 use Rattle.command.specs.Command.{commandOf}
-use Rattle.command.specs.Effects.{workingValue, Effect, effectOf, replyOf}
-use Rattle.command.specs.Answer.{loadedFrom, isSave, pageAfter}
+use Rattle.command.specs.Effects.{workingValue, Effect, effectOf}
+use Rattle.command.specs.Answer.{loadedFrom, pageAfter}
 use Rattle.command.specs.Handle.{settingsAllowed}
 use Rattle.command.proofs.Keeps.{value-allowed, keeps-allowed}
 use Rattle.command.proofs.Pages.{loaded-stored, page-changes, put-allowed}

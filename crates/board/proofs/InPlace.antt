@@ -1,7 +1,7 @@
 -- A feed in place: its tests, and that it is the feed of the board.
 use mathlib.Core.Bool.{Bool, true, false, not}
 use mathlib.Core.List.{List}
-use mathlib.Core.Path.{_≡_, refl, sym, ap, _∙_}
+use mathlib.Core.Path.{_≡_, refl, sym, _∙_}
 use Prim.Native.Nat.{ℕ, zero, suc, _≤_, _<_}
 use native.Mathlib.Omega.{arith}
 use lib.Dec.{eqb, ltb}
@@ -9,10 +9,10 @@ use lib.ListN.{length, take}
 use borrow.Author.Tests.{lt-ltb, le-ltb, eq-eqb, ne-eqb, eqb-true}
 use Rattle.command.specs.declared.settings.Settings.{Settings}
 use Rattle.board.specs.declared.board.Board.{Board}
-use Rattle.board.specs.declared.port.Port.{Port}
 use Rattle.board.specs.declared.feeding.Stepped.{Stepped}
 use Rattle.board.specs.Port.{portRoom, heldBytes, portHolding, portOf}
-use Rattle.board.specs.Feed.{PortStep, refuse, feedNumber, refusedFeeding, refusedStepping, stepOf, feedOn, acceptOn, feedOf, inPlace, namedHeld, placeNumber, placeOn, placeOf}
+use Rattle.message.specs.Whole.{refuse}
+use Rattle.board.specs.Feed.{PortStep, feedNumber, refusedFeeding, refusedStepping, stepOf, feedOn, acceptOn, feedOf, inPlace, namedHeld, placeNumber, placeOn, placeOf}
 use Rattle.board.specs.AnyBoard.{putBack, InPlaceIsFeed}
 use Rattle.board.proofs.Places.{passes}
 use Rattle.board.proofs.Feedings.{SoundParts, passed-parts}

@@ -1,9 +1,9 @@
 -- The laws of keeping bytes in place.
-use Prim.Native.Nat.{ℕ, zero, suc, _≤_, _<_, _-_, _+_}
+use Prim.Native.Nat.{ℕ, suc, _≤_, _<_, _-_, _+_}
 use native.Mathlib.Omega.{arith}
 use native.Mathlib.Numerals.{add-one}
 use native.Mathlib.Nat.{sub-self, zero-add}
-use mathlib.Core.Path.{_≡_, refl, ap, _∙_, sym}
+use mathlib.Core.Path.{_≡_, ap, _∙_, sym}
 use mathlib.Core.List.{List, [], _∷_, _++_, append-nil, append-assoc}
 use lib.ListN.{length, take, drop, getD, set, replicate, length-drop, length-append, length-replicate, replicate-append-replicate, take-append-drop, drop-of-length-le}
 use lib.Seq.{paste-suc, getD-drop, length-take-le, take-append-le, take-append-add, take-take, take-at, drop-cons, drop-append-le, drop-append-add, drop-drop, set-at}

@@ -1,11 +1,11 @@
 -- The laws of a step in place: what the seek finds lies in the bytes held and taken, and what is left of them fits the port.
-use Prim.Native.Nat.{ℕ, zero, suc, _+_, _-_, _≤_, _<_}
+use Prim.Native.Nat.{ℕ, zero, suc, _+_, _-_, _≤_}
 use native.Mathlib.Omega.{arith}
 use mathlib.Core.Path.{_≡_, refl, sym, ap, subst, _∙_}
 use mathlib.Core.Bool.{Bool, true, false, _||_, not}
-use mathlib.Core.List.{List, [], _∷_, _++_}
+use mathlib.Core.List.{List, _++_}
 use lib.Dec.{ltb}
-use lib.ListN.{length, take, drop, length-append, length-take, length-drop}
+use lib.ListN.{length, take, drop, length-drop}
 use lib.Seq.{take-all, length-take-le, take-append-add}
 use borrow.Author.Tests.{ltb-false}
 use Rattle.stream.proofs.Bools.{or-neither}
@@ -14,9 +14,9 @@ use Rattle.stream.specs.declared.Sought.the-variants.{Starved, Found}
 use Rattle.stream.specs.Seek.{seek, resume, skippedBy}
 use Rattle.stream.specs.Cutting.{Agrees, StarvedAt}
 use Rattle.message.specs.Front.{front, mostUndecided}
+use Rattle.message.specs.Whole.{refuse}
 use Rattle.message.proofs.Framed.{cutting-harmless}
 use Rattle.command.specs.declared.settings.Settings.{Settings}
-use Rattle.command.specs.declared.command.Command.{Command}
 use Rattle.command.specs.Command.{commandOf}
 use Rattle.command.specs.declared.answer.Answer.{Answer}
 use Rattle.command.specs.Answer.{Answering, answering}
@@ -25,7 +25,7 @@ use Rattle.board.specs.declared.feeding.Stepped.{Stepped}
 use Rattle.board.specs.declared.board.Board.{Board}
 use Rattle.board.specs.declared.board.Fed.{Fed}
 use Rattle.board.specs.Port.{padded, heldBytes, portHolding, portOf}
-use Rattle.board.specs.Feed.{Feeding, PortStep, refuse, unsound, feedNumber, refusedFeeding, acceptOn, leftOf, stepOn, stepOf, inPlace, Stepping, feedOn, feedOf}
+use Rattle.board.specs.Feed.{Feeding, PortStep, unsound, feedNumber, refusedFeeding, acceptOn, leftOf, stepOf, inPlace, Stepping, feedOn, feedOf}
 use Rattle.board.proofs.Kept.{window-length}
 use Rattle.board.proofs.Starts.{drop-take}
 
@@ -95,8 +95,8 @@ module _ (b chunk : List ℕ) (held : ℕ) (few : held ≤ 260) (long : length b
     pub found-at : k ≤ held + length chunk
     found-at = omega (arith, found-in)
 
-    pub found-step : (w : Settings) (room page : List ℕ) (c : Command) → c ≡ commandOf good (drop k (take held b ++ chunk))
-        → (a : Answer) (roomAfter pageAfter : List ℕ) → record { answer = a; room = roomAfter; page = pageAfter } ≡ answering c w room page
+    pub found-step : (w : Settings) (room page : List ℕ) (a : Answer) (roomAfter pageAfter : List ℕ)
+        → record { answer = a; room = roomAfter; page = pageAfter } ≡ answering (commandOf good (drop k (take held b ++ chunk))) w room page
         → (t : ℕ) → t ≡ k + n - held
         → (sk : ℕ) → sk ≡ skippedBy k good
         → (l : ℕ) → l ≡ length (leftOf k n good (take held b) chunk)
@@ -104,10 +104,8 @@ module _ (b chunk : List ℕ) (held : ℕ) (few : held ≤ 260) (long : length b
         → record { step = record { number = 0; taken = t; skipped = sk; saved = a .saved; held = l; settings = a .settings }; bytes = y; room = roomAfter; page = pageAfter }
         ≡ inPlace (stepOf (take held b) w chunk room page)
     unfolding stepOf
-    found-step w room page c cs a roomAfter pageAfter gs t ts sk sks l ls y ys =
+    found-step w room page a roomAfter pageAfter g t ts sk sks l ls y ys =
         let h : k + n - length (take held b) ≡ k + n - held = ap (λ (i : ℕ). k + n - i) held-long in
-        let g : record { answer = a; room = roomAfter; page = pageAfter } ≡ answering (commandOf good (drop k (take held b ++ chunk))) w room page =
-        gs ∙ ap (λ (c : Command). answering c w room page) cs in
         rw (e, ys, ls, sks, ts, ← h)
         (ap (λ (g : Answering). record {
           step = record { number = 0; taken = k + n - length (take held b); skipped = skippedBy k good; saved = g .answer .saved; held = length (leftOf k n good (take held b) chunk); settings = g .answer .settings };

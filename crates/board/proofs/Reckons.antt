@@ -1,5 +1,5 @@
 -- Demand 3: from a start on a unfed or sound page, every list of feeds goes as the plain reckoning says.
-use mathlib.Core.Bool.{Bool, true, false, not}
+use mathlib.Core.Bool.{Bool, true, false}
 use mathlib.Core.List.{List, [], _∷_}
 use mathlib.Core.Path.{_≡_, refl, sym, ap, _∙_, subst}
 use Prim.Native.Nat.{ℕ, zero, suc, _≤_}
@@ -8,7 +8,7 @@ use lib.Dec.{eqb}
 use lib.ListN.{length}
 use Rattle.history.specs.Feeds.{Answer, Run, State, run}
 use Rattle.history.specs.Feeds.{Feed as FeedOf, portOf as keptPort}
-use Rattle.history.specs.Reckoning.{Ledger, heldOf, reckoning}
+use Rattle.history.specs.Reckoning.{Ledger, heldOf}
 use Rattle.history.specs.Program.{heldStep, heldProgram}
 use Rattle.history.specs.Ports.{PortHistory, unfed, historyAfter, historyOf, PortAccount}
 use Rattle.history.specs.Theorems.{Matches}
@@ -32,7 +32,7 @@ use Rattle.board.specs.Start.{freshBoard, startOf}
 use Rattle.board.specs.Feed.{Feeding, feedOf}
 use Rattle.board.specs.Handling.{Reckoned, Kept, settingsOf, reckonMessage, handleMessage, keptTests, StoredAs}
 use Rattle.board.specs.Runs.{Call, Calls, callsFrom, callsOn, feedsOf, reckonedOn, Told, AllTold}
-use Rattle.board.specs.Theorems.{AsReckoned, FromPage, Demand3, callsThen, OneMore, answersOf, historyOn, heldOn, PortAddsUp, SumLaw, ReportsScanned}
+use Rattle.board.specs.Theorems.{AsReckoned, Demand3, OneMore, answersOf, historyOn, heldOn, PortAddsUp, SumLaw, ReportsScanned}
 use Rattle.board.proofs.Handles.{loaded-same, loaded-allowed, handles}
 use Rattle.board.proofs.Steps.{stateOf, Padded, Same, feedFrom, step-same}
 

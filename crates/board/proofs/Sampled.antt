@@ -1,5 +1,5 @@
 -- The sample lines, computed.
-use mathlib.Core.Path.{_≡_, refl}
+use mathlib.Core.Path.{refl}
 use Rattle.stream.specs.Seek.{seek}
 use Rattle.message.specs.Message.{messageOf, sumsRight}
 use Rattle.message.specs.Front.{front}

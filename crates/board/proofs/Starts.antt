@@ -1,24 +1,22 @@
 -- Starting, and the tests of a feed, case by case.
 use Prim.Native.Nat.{ℕ, zero, suc, _+_, _-_, _≤_, _<_}
 use native.Mathlib.Omega.{arith}
+use native.Mathlib.Decide.{decLt}
 use native.Mathlib.Numerals.{add-one}
 use mathlib.Core.Path.{_≡_, refl, sym, ap, _∙_}
-use mathlib.Core.Bool.{Bool, true, false, _||_, not, or-true}
-use mathlib.Core.List.{List, [], _∷_, _++_}
-use lib.Dec.{ltb}
-use lib.ListN.{length, take, drop, length-take, length-drop}
+use mathlib.Core.Bool.{Bool, true, false, not}
+use mathlib.Core.List.{List, _++_}
+use lib.ListN.{length, take, drop, length-drop}
 use lib.Seq.{take-all, take-add, drop-at, drop-append-le, length-take-le}
-use borrow.Author.Tests.{lt-ltb, le-ltb, not-true, not-false}
+use borrow.Author.Tests.{lt-ltb, le-ltb}
 use Rattle.stream.specs.Seek.{resume, skippedBy}
 use Rattle.message.proofs.Windows.{drop-chunk}
 use Rattle.page.specs.Sound.{pageNumber}
 use Rattle.command.specs.declared.settings.Settings.{Settings}
-use Rattle.command.specs.declared.command.Command.{Command}
 use Rattle.command.specs.Command.{commandOf}
-use Rattle.command.specs.Answer.{settingsFrom}
+use Rattle.command.specs.Answer.{settingsFrom, Answering, answering}
 use Rattle.command.specs.Handle.{settingsAllowed}
 use Rattle.board.specs.declared.board.Board.{Board}
-use Rattle.board.specs.declared.board.Started.{Started}
 use Rattle.board.specs.declared.port.Port.{Port}
 use Rattle.board.specs.Port.{freshPort}
 use Rattle.board.specs.Start.{factorySettings, freshBoard, startOn, startOf}
@@ -98,15 +96,28 @@ module _ (bytes chunk : List ℕ) (held k : ℕ) (good : Bool) (fits : held ≤ 
   held-long : length (take held bytes) ≡ held
   held-long = length-take-le held bytes fits
 
-  pub command-held : k < held → (c : Command) → c ≡ commandOf good (take (held - k) (drop k bytes) ++ chunk) → c ≡ commandOf good (drop k (take held bytes ++ chunk))
-  command-held h c e =
-      let d : drop k (take held bytes ++ chunk) ≡ take (held - k) (drop k bytes) ++ chunk =
-      drop-append-le k (take held bytes) chunk (rw held-long (omega arith)) ∙ ap (λ (l : List ℕ). l ++ chunk) (drop-take k held bytes (omega arith) fits) in
-      rw d e
+  -- What k bytes leave of those held and of the chunk.
+  row-held : k < held → take (held - k) (drop k bytes) ++ chunk ≡ drop k (take held bytes ++ chunk)
+  row-held h =
+      sym (drop-append-le k (take held bytes) chunk (rw held-long (omega arith)) ∙ ap (λ (l : List ℕ). l ++ chunk) (drop-take k held bytes (omega arith) fits))
 
-  pub command-chunk : held ≤ k → (c : Command) → c ≡ commandOf good (take (length chunk - (k - held)) (drop (k - held) chunk)) → c ≡ commandOf good (drop k (take held bytes ++ chunk))
-  command-chunk h c e =
-      let t : take (length chunk - (k - held)) (drop (k - held) chunk) ≡ drop (k - held) chunk =
-      take-all (length chunk - (k - held)) (drop (k - held) chunk) (rw length-drop (omega arith)) in
-      let d : drop (k - held) chunk ≡ drop k (take held bytes ++ chunk) = rw held-long at (drop-chunk (take held bytes) chunk k (rw held-long h)) in
-      rw (← d, ← t) e
+  row-chunk : held ≤ k → drop (k - held) chunk ≡ drop k (take held bytes ++ chunk)
+  row-chunk h = rw held-long at (drop-chunk (take held bytes) chunk k (rw held-long h))
+
+  row-left : (x past : ℕ) → x ≡ held - k → past ≡ k - held
+      → take (held - (held - x)) (drop (held - x) bytes) ++ take (length chunk - past) (drop past chunk) ≡ drop k (take held bytes ++ chunk)
+  row-left x past xs ps = rw (take-all (length chunk - past) (drop past chunk) (rw length-drop (omega arith))) (go (decLt k held))
+    where
+      go : Dec (k < held) → take (held - (held - x)) (drop (held - x) bytes) ++ drop past chunk ≡ drop k (take held bytes ++ chunk)
+      go (yes h) =
+          let f : held - x ≡ k = omega arith in
+          let p : past ≡ 0 = omega arith in
+          rw (f, p) (row-held h)
+      go (no h) =
+          let f : held - (held - x) ≡ 0 = omega arith in
+          rw (f, ps) (row-chunk (omega arith))
+
+  pub answer-left : (x past : ℕ) → x ≡ held - k → past ≡ k - held → (w : Settings) (room page : List ℕ) (done : Answering)
+      → done ≡ answering (commandOf good (take (held - (held - x)) (drop (held - x) bytes) ++ take (length chunk - past) (drop past chunk))) w room page
+      → done ≡ answering (commandOf good (drop k (take held bytes ++ chunk))) w room page
+  answer-left x past xs ps w room page done h = h ∙ ap (λ (m : List ℕ). answering (commandOf good m) w room page) (row-left x past xs ps)

@@ -1,31 +1,30 @@
 -- A feed of the board is a feed of the program that keeps only held bytes.
 use mathlib.Core.Bool.{Bool, true, false, _||_, not}
-use mathlib.Core.List.{List, [], _∷_, _++_}
+use mathlib.Core.List.{List, _++_}
 use mathlib.Core.Path.{_≡_, refl, sym, ap, _∙_}
 use Prim.Native.Nat.{ℕ, zero, suc, _+_, _-_, _≤_}
-use native.Mathlib.Omega.{arith}
 use lib.Dec.{eqb, ltb}
 use lib.ListN.{length, take, drop}
 use borrow.Author.Tests.{ltb-false}
 use Rattle.stream.specs.declared.Sought.{Sought}
 use Rattle.stream.specs.declared.Sought.the-variants.{Starved, Found}
-use Rattle.stream.specs.Scan.{Message, messageAt}
-use Rattle.stream.specs.Seek.{seek, resume, skippedBy}
-use Rattle.history.specs.Feeds.{Answer, Feed, Step, State, Turn, refused, settled, accept}
+use Rattle.stream.specs.Seek.{seek, resume}
+use Rattle.history.specs.Feeds.{Feed, Step, State, Turn, refused, settled, accept}
 use Rattle.history.specs.Feeds.{refuse as refuseStep, portOf as keptPort}
-use Rattle.history.specs.Program.{Tests, heldOn, heldFeed, heldStep}
+use Rattle.history.specs.Program.{heldOn, heldFeed, heldStep}
 use Rattle.message.specs.Front.{front}
+use Rattle.message.specs.Whole.{refuse}
 use Rattle.page.specs.Page.{pageSize}
 use Rattle.page.specs.Sound.{sound, pageNumber}
 use Rattle.command.specs.declared.settings.Settings.{Settings}
 use Rattle.command.specs.Command.{commandOf}
-use Rattle.command.specs.Answer.{Answering, answering}
+use Rattle.command.specs.Answer.{answering}
 use Rattle.command.specs.Handle.{settingsAllowed, replyRoom}
 use Rattle.command.proofs.Pages.{reply-whole}
 use Rattle.board.specs.declared.port.Port.{Port}
 use Rattle.board.specs.declared.board.Board.{Board}
 use Rattle.board.specs.Port.{heldBytes, portHolding, portOf, withPort}
-use Rattle.board.specs.Feed.{Feeding, refuse, unsound, feedNumber, refusedFeeding, stepOn, stepOf, feedOn, acceptOn, feedOf}
+use Rattle.board.specs.Feed.{Feeding, unsound, feedNumber, refusedFeeding, stepOn, stepOf, feedOn, acceptOn, feedOf}
 use Rattle.board.specs.Handling.{Kept, handleMessage, keptTests}
 use Rattle.board.specs.Runs.{Call, Told}
 use Rattle.board.proofs.Follows.{holding, found-visible}

@@ -55,7 +55,7 @@ module _ (port : ℕ) (b : Board) (chunk room page : List ℕ) where
     pub fed-port : portOf port (fed .answer .board) ≡ portHolding (heldBytes (portOf port (fed .answer .board)))
     pub other-port : portOf (otherPort port) (fed .answer .board) ≡ portOf (otherPort port) b
 
-  -- The page with the working value of a setting put in.
+  -- The page with the working value of a setting put in. Which setting it is, the message found says (`stepOf`).
   pub record PageSaved : Type 0 where
     pub setting : Setting
     pub written : fed .page ≡ savedPage page setting (workingValue (b .settings) setting)

@@ -1,6 +1,6 @@
 -- Document 01, "The scan" and "Numbers of the calls": a feed.
 use Prim.Native.Nat.{ℕ, zero, suc, _+_, _-_}
-use mathlib.Core.Bool.{Bool, true, false, _||_, not}
+use mathlib.Core.Bool.{Bool, false, _||_, not}
 use mathlib.Core.List.{List, _++_}
 use lib.Dec.{eqb, ltb}
 use lib.ListN.{length, take, drop}
@@ -8,6 +8,7 @@ use Rattle.stream.specs.declared.Sought.{Sought}
 use Rattle.stream.specs.declared.Sought.the-variants.{Starved, Found}
 use Rattle.stream.specs.Seek.{seek, resume, skippedBy}
 use Rattle.message.specs.Front.{front}
+use Rattle.message.specs.Whole.{refuse}
 use Rattle.page.specs.Sound.{pageNumber}
 use Rattle.command.specs.declared.settings.Settings.{Settings}
 use Rattle.command.specs.Command.{commandOf}
@@ -25,10 +26,6 @@ pub record Feeding : Type 0 where
   pub page : List ℕ
 
 -- ---- refusals
-
-abbrev pub refuse : Bool → ℕ → ℕ → ℕ
-refuse true n next = n
-refuse false n next = next
 
 -- A port holds over 260, or a working value is not allowed.
 unfoldable pub unsound : ℕ → ℕ → Settings → Bool
@@ -62,8 +59,8 @@ abbrev pub leftOf : ℕ → ℕ → Bool → List ℕ → List ℕ → List ℕ
 leftOf k n good held chunk = drop (resume k n good) (held ++ take (k + n - length held) chunk)
 
 -- A message is found behind k bytes of those held and then the chunk, n long: bytes are taken up to its end, it is handled (by
--- its own bytes: `OwnBytes` in crate command), and what is left of the bytes held and taken stays held. Nothing is found: the whole chunk is taken, and what the seek
--- left undecided stays held.
+-- its own bytes: `OwnBytes` in crate command), and what is left of the bytes held and taken stays held. Nothing is found: the
+-- whole chunk is taken, and what the seek left undecided stays held.
 abbrev pub stepOn : Sought → List ℕ → Settings → List ℕ → List ℕ → List ℕ → PortStep
 stepOn (Found k n good) held w chunk room page =
     let a : Answering = answering (commandOf good (drop k (held ++ chunk))) w room page in

@@ -1,6 +1,6 @@
 -- Document 01, "The plain reckoning": message n + 1 is handled on the values kept. Beside it, the same on the board's settings
 -- and page.
-use mathlib.Core.Bool.{Bool, true, not}
+use mathlib.Core.Bool.{true, not}
 use mathlib.Core.List.{List}
 use mathlib.Core.Option.{Option, none, some}
 use mathlib.Core.Path.{_≡_}

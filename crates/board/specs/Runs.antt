@@ -11,7 +11,6 @@ use Rattle.page.specs.declared.setting.Values.{Values}
 use Rattle.page.specs.Page.{writing}
 use Rattle.command.specs.Handle.{replyRoom}
 use Rattle.board.specs.declared.board.Board.{Board}
-use Rattle.board.specs.declared.board.Fed.{Fed}
 use Rattle.board.specs.Feed.{Feeding, feedOf}
 use Rattle.board.specs.Handling.{Reckoned, settingsOf, reckonMessage}
 use Rattle.board.specs.Start.{startOf}

@@ -1,5 +1,5 @@
 -- What is proved of lists of feeds from a start: demand 3, and the sum law. The proofs stand in proofs/.
-use mathlib.Core.Bool.{true, false}
+use mathlib.Core.Bool.{true}
 use mathlib.Core.List.{List, [], _∷_, _++_}
 use mathlib.Core.Path.{_≡_}
 use Prim.Native.Nat.{ℕ, _+_, _≤_}

@@ -21,7 +21,6 @@ pub struct Started {
 }
 
 // What a feed answers.
-#[repr(C)]
 pub struct Fed {
     // document 01's number
     pub number: u8,

@@ -8,16 +8,16 @@ ghost use Rattle.stream.specs.declared.Sought.the-variants.{Starved, Found};
 ghost use Rattle.stream.specs.Seek.{seek, resume, skippedBy};
 ghost use Rattle.message.specs.Front.{front};
 ghost use Rattle.command.specs.Command.{commandOf};
+ghost use Rattle.command.specs.Answer.{answering};
 ghost use Rattle.board.specs.Port.{heldBytes, padded};
 ghost use Rattle.board.specs.Feed.{feedNumber, leftOf, stepOf, inPlace, feedOn, feedOf, namedHeld, placeNumber, placeOf};
 use crate::board::Board;
 use crate::board::Fed;
 use crate::keep::keep_part;
 use crate::port::Port;
-use command::Command;
+use command::Answer;
 use command::Settings;
-use command::answer_command;
-use command::command_over;
+use command::answer_over;
 use command::settings_allowed;
 use message::seek_held;
 use stream::Sought;
@@ -44,23 +44,31 @@ fn feed_number(port: u8, first: usize, second: usize, w: Settings, room: &[u8], 
     page::check_page(page)
 }
 
-// The message that starts behind `k` bytes of the first `held` and then the chunk.
-fn command_at(bytes: &[u8], held: usize, chunk: &[u8], k: usize, good: bool) -> Command
-    requires { ⌜ (held ≤ length (now bytes)) × (k ≤ held + length (now chunk)) ⌝ }
-    ensures { λ r. ⌜ r ≡ commandOf good (drop k (take held (now (bytes .entry)) ++ now (chunk .entry))) ⌝ }
-{
-    if k < held {
-        return command_over(&bytes[k..held], chunk, good);
-    }
-    let j = k - held;
-    command_over(&bytes[..0], &chunk[j..], good)
-}
-
 // The part of `x` beyond `y`.
 fn excess(x: usize, y: usize) -> usize
     ensures { λ r. ⌜ r ≡ x - y ⌝ }
 {
     if x < y { 0 } else { x - y }
+}
+
+// Answers the message that starts behind `k` bytes of the first `held` and then the chunk: it lies in what those leave of
+// both, whether it is held, straddles or is all in the chunk.
+fn answer_at(
+    bytes: &[u8],
+    held: usize,
+    chunk: &[u8],
+    k: usize,
+    good: bool,
+    w: Settings,
+    room: &mut [u8],
+    page: &mut [u8],
+) -> Answer
+    requires { ⌜ (held ≤ length (now bytes)) × (k ≤ held + length (now chunk)) ⌝ }
+    ensures { λ r. ⌜ record { answer = r; room = now (room .exit); page = now (page .exit) } ≡ answering (commandOf good (drop k (take held (now (bytes .entry)) ++ now (chunk .entry)))) w (now (room .entry)) (now (page .entry)) ⌝ }
+{
+    let from = held - excess(held, k);
+    let past = excess(k, held);
+    answer_over(&bytes[from..held], &chunk[past..], good, w, room, page)
 }
 
 // Where reading goes on after a message: behind a good one, one byte after the start of a damaged one.
@@ -93,15 +101,17 @@ fn keep_after(bytes: &mut [u8], held: usize, chunk: &[u8], k: usize, n: usize, g
     to - from
 }
 
-// What a step of a port answers. The port's bytes stay in its array.
+// What a step of a port answers. The port's bytes stay in its array. The widest fields come first: with a byte in front of
+// them, a copy of the answer is made of parts that straddle the fields, and is slow (docs/DECISIONS.md).
 #[repr(C)]
 pub struct Stepped {
-    pub number: u8,
     pub taken: usize,
     pub skipped: usize,
-    pub saved: bool,
     pub held: usize,
     pub settings: Settings,
+    // document 01's number
+    pub number: u8,
+    pub saved: bool,
 }
 
 // A step where nothing is found: the whole chunk is taken.
@@ -141,7 +151,7 @@ fn step_found(
 {
     let taken = excess(k + n, held);
     let skipped = skipped_with(k, good);
-    let a = answer_command(command_at(bytes, held, chunk, k, good), w, room, page);
+    let a = answer_at(bytes, held, chunk, k, good, w, room, page);
     let settings = a.settings;
     Stepped {
         number: 0,

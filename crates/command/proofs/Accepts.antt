@@ -1,18 +1,15 @@
 -- What a command without error has passed, and what it is about.
-use mathlib.Core.Path.{_≡_, refl, sym, _∙_}
-use mathlib.Core.Bool.{Bool, true, false, _&&_, _||_, not}
-use Prim.Native.Nat.{ℕ, zero, suc, _+_, _≤_}
+use mathlib.Core.Path.{_≡_, refl}
+use mathlib.Core.Bool.{Bool, true, false, _||_, not}
+use Prim.Native.Nat.{ℕ, suc, _+_, _≤_}
 use native.Mathlib.Omega.{arith}
-use lib.Dec.{eqb, leb}
+use lib.Dec.{eqb}
 use borrow.Author.Tests.{eqb-true, not-false}
-use Rattle.page.specs.declared.setting.Setting.{Setting}
-use Rattle.page.specs.Settings.{allowed, valueSize}
 use Rattle.message.specs.Whole.{refuse}
 use Rattle.command.specs.declared.command.Command.{Command}
 use Rattle.command.specs.declared.command.Subject.{Subject}
-use Rattle.command.specs.declared.command.Subject.the-variants.{Ping, Setting as About, Unknown}
-use Rattle.command.specs.Command.{valueFor, subjectOf}
-use Rattle.command.specs.Errors.{isUnknown, isFunction, sizeRight, functionRight, valueRight, fieldWrong, errorOf}
+use Rattle.command.specs.Command.{subjectOf}
+use Rattle.command.specs.Errors.{isUnknown, sizeRight, functionRight, valueRight, fieldWrong, errorOf}
 use Rattle.stream.proofs.Bools.{or-neither}
 
 -- The tests of a field that is not wrong.

@@ -4,7 +4,7 @@ use native.Mathlib.Omega.{arith}
 use mathlib.Core.Path.{_≡_, refl, sym, _∙_, ap}
 use mathlib.Core.Bool.{Bool, true, false}
 use mathlib.Core.List.{List, [], _∷_}
-use mathlib.Core.Option.{none, some}
+use lib.ListN.{getD}
 use Rattle.word.specs.Word.{wordBytes}
 use Rattle.page.specs.declared.setting.Setting.{Setting}
 use Rattle.page.specs.declared.setting.Setting.the-variants.{Baud, Accelerometer, Gyroscope}
@@ -20,10 +20,11 @@ use Rattle.command.specs.declared.settings.Settings.{Settings}
 use Rattle.command.specs.declared.command.Command.{Command}
 use Rattle.command.specs.declared.command.Subject.{Subject}
 use Rattle.command.specs.declared.command.Subject.the-variants.{Ping, Setting as About, Unknown}
-use Rattle.command.specs.Command.{valueFor, subjectOf}
-use Rattle.command.specs.Errors.{errorOf}
-use Rattle.command.specs.Effects.{workingValue, withWorking, Fits, Effect, valueRow, functionEffect, fieldEffect, effectOn, effectOf, replyPayload}
+use Rattle.command.specs.Command.{payloadByte, commandOf, valueFor, subjectOf}
+use Rattle.command.specs.Errors.{typeError, errorOf}
+use Rattle.command.specs.Effects.{workingValue, withWorking, Fits, valueRow, functionEffect, fieldEffect, effectOn, effectOf, replyRows, replyPayload}
 use Rattle.command.specs.Answer.{loadedFrom, Answering, answerWith, answering}
+use Rattle.command.proofs.Tests.{error-type}
 
 -- ---- the value of a command, and its row
 
@@ -164,3 +165,18 @@ module _ (c : Command) (w : Settings) (room page : List ℕ) (error : ℕ) (es :
         → done ≡ answerWith 0 (functionEffect (c .function) (loadedFrom page) w s (valueFor s c)) c w room page → done ≡ answering c w room page
     unfolding answering effectOf
     answer-setting s e done h = h ∙ rw (no-error, ← ss, e)
+
+-- ---- any message
+
+module _ (m : List ℕ) (good : Bool) (w : Settings) (room page : List ℕ) where
+  -- It is told by its type and its first payload byte.
+  pub answer-early : (kind : ℕ) → kind ≡ getD m 2 0 → (t : ℕ) → t ≡ typeError good kind → (t ≡ 0 → ⊥) → (echo : ℕ) → echo ≡ payloadByte m 0
+      → (a : Answer) → a ≡ record { error = t; saved = false; length = plainWriting kind (replyRows echo t []) room .answer .length; settings = w }
+      → (after : List ℕ) → after ≡ plainWriting kind (replyRows echo t []) room .room
+      → record { answer = a; room = after; page = page } ≡ answering (commandOf good m) w room page
+  unfolding commandOf
+  answer-early kind ks t ts n echo es a p after q =
+      answer-refused (commandOf good m) w room page t (error-type (commandOf good m) t (rw (← ks) ts) n) n a (rw (← ks, ← es) p) after (rw (← ks, ← es) q)
+
+  pub answer-read : (c : Command) → c ≡ commandOf good m → (done : Answering) → done ≡ answering c w room page → done ≡ answering (commandOf good m) w room page
+  answer-read c cs done h = h ∙ ap (λ (c : Command). answering c w room page) cs

@@ -1,10 +1,9 @@
 -- One message handled as a call of its own, test by test.
 use Prim.Native.Nat.{ℕ, zero, suc, _≤_, _<_}
-use native.Mathlib.Omega.{arith}
-use mathlib.Core.Path.{_≡_, refl, sym, _∙_, ap}
+use mathlib.Core.Path.{_≡_, refl}
 use mathlib.Core.Bool.{Bool, true, false, not}
 use mathlib.Core.List.{List}
-use lib.Dec.{eqb, ltb}
+use lib.Dec.{eqb}
 use lib.ListN.{length}
 use borrow.Author.Tests.{lt-ltb, le-ltb, eq-eqb, ne-eqb}
 use Rattle.page.specs.Sound.{pageNumber}
@@ -14,8 +13,8 @@ use Rattle.command.specs.declared.command.Command.{Command}
 use Rattle.command.specs.declared.handle.Handled.{Handled}
 use Rattle.command.specs.declared.settings.Settings.{Settings}
 use Rattle.command.specs.Command.{commandOf}
-use Rattle.command.specs.Answer.{Answering, answering}
-use Rattle.command.specs.Handle.{settingsAllowed, handlingNumber, Handling, refusedHandled, handlingOn, handling}
+use Rattle.command.specs.Answer.{answering}
+use Rattle.command.specs.Handle.{settingsAllowed, handlingNumber, refusedHandled, handlingOn, handling}
 
 module _ (m : List ℕ) (w : Settings) (room page : List ℕ) (b : Bool) (bs : b ≡ settingsAllowed w) where
   pub number-17 : not b ≡ true → 17 ≡ handlingNumber m w room page

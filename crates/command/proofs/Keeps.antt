@@ -1,27 +1,26 @@
 -- Handling keeps the working values allowed; a save is accepted under function 3 only; the longest reply is 16 bytes.
-use mathlib.Core.Path.{_≡_, refl, sym, _∙_, ap}
-use mathlib.Core.Bool.{Bool, true, false, _&&_, _||_, not}
-use mathlib.Core.List.{List, [], _∷_}
-use mathlib.Core.Option.{Option, none, some}
-use Prim.Native.Nat.{ℕ, zero, suc, _+_, _≤_}
+use mathlib.Core.Path.{_≡_, refl, ap}
+use mathlib.Core.Bool.{Bool, true, _&&_, _||_, not}
+use mathlib.Core.Option.{some}
+use Prim.Native.Nat.{ℕ, zero, suc, _≤_}
 use native.Mathlib.Omega.{arith}
-use lib.Dec.{eqb, leb}
+use lib.Dec.{eqb}
 use lib.ListN.{length}
 use Rattle.page.specs.declared.setting.Setting.{Setting}
 use Rattle.page.specs.declared.setting.Setting.the-variants.{Baud, Accelerometer, Gyroscope}
-use Rattle.page.specs.Settings.{allowed, valueBytes, valueSize, factoryValue}
+use Rattle.page.specs.Settings.{allowed, factoryValue}
 use Rattle.message.proofs.Writes.{message-length}
 use Rattle.command.specs.declared.settings.Settings.{Settings}
 use Rattle.command.specs.declared.command.Command.{Command}
 use Rattle.command.specs.declared.command.Subject.{Subject}
 use Rattle.command.specs.declared.command.Subject.the-variants.{Ping, Setting as About, Unknown}
 use Rattle.command.specs.Command.{valueFor, subjectOf}
-use Rattle.command.specs.Errors.{errorOf, valueRight, isFunction}
-use Rattle.command.specs.Effects.{workingValue, withWorking, Effect, leaving, valueRow, functionEffect, fieldEffect, effectOn, effectOf, replyPayload, replyOf}
-use Rattle.command.specs.Handle.{settingsAllowed, replyRoom}
+use Rattle.command.specs.Errors.{errorOf, valueRight}
+use Rattle.command.specs.Effects.{workingValue, withWorking, valueRow, functionEffect, fieldEffect, effectOn, effectOf, replyPayload, replyOf}
+use Rattle.command.specs.Handle.{settingsAllowed}
 use Rattle.command.specs.Theorems.{KeepsAllowed, SaveOf, SavesOnly, SavesThen, ReplyFits}
 use Rattle.stream.proofs.Bools.{and-both}
-use Rattle.command.proofs.Accepts.{FieldRight, Accepted, accepted}
+use Rattle.command.proofs.Accepts.{accepted}
 
 -- ---- the working values
 

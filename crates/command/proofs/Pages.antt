@@ -1,11 +1,11 @@
 -- What handling does to a sound page, and the reply in a room of 16 bytes.
-use Prim.Native.Nat.{ℕ, _+_, _%_, _≤_}
+use Prim.Native.Nat.{ℕ, _+_, _%_}
 use native.Mathlib.Omega.{arith}
-use mathlib.Core.Path.{_≡_, refl, sym, _∙_, ap}
-use mathlib.Core.Bool.{Bool, true, false, _&&_, not}
-use mathlib.Core.List.{List, [], _∷_, _++_}
+use mathlib.Core.Path.{_≡_, refl, _∙_, ap}
+use mathlib.Core.Bool.{true, false, _&&_}
+use mathlib.Core.List.{List, _++_}
 use mathlib.Core.Option.{Option, none, some}
-use lib.Dec.{eqb, ltb}
+use lib.Dec.{ltb}
 use lib.ListN.{length, drop, length-drop, List·getD-append}
 use lib.Seq.{drop-append-le, take-append-le}
 use borrow.Author.Tests.{le-ltb, eq-eqb}
@@ -15,19 +15,17 @@ use Rattle.page.specs.declared.setting.Values.{Values}
 use Rattle.page.specs.Settings.{allowed, valueBytes, factoryValue}
 use Rattle.page.specs.Page.{storedIn, storedAllowed, allAllowed, withValue, writing, pageSize}
 use Rattle.page.specs.Lookup.{valuesIn}
-use Rattle.page.specs.Sound.{sound, pageWriting, savedPage}
+use Rattle.page.specs.Sound.{pageWriting, savedPage}
 use Rattle.page.specs.Theorems.{valueOr}
 use Rattle.page.proofs.Pages.{writing-size, value-back, sound-is-writing, save-keeps, loads-stored}
 use Rattle.message.specs.Message.{messageOf, typeOf, lengthOf, payloadOf}
 use Rattle.message.specs.Write.{plainWriting}
 use Rattle.message.proofs.Writes.{message-length}
 use Rattle.command.specs.declared.settings.Settings.{Settings}
-use Rattle.command.specs.declared.command.Command.{Command}
 use Rattle.command.specs.Command.{commandOf}
 use Rattle.command.specs.Errors.{errorOf}
 use Rattle.command.specs.Effects.{workingValue, effectOf, replyPayload, replyOf}
 use Rattle.command.specs.Answer.{bodyValue, loadedFrom, isSave, pageAfter, answering}
-use Rattle.command.specs.Handle.{settingsAllowed, replyRoom}
 use Rattle.command.specs.Theorems.{LoadsStored, ReplyWhole, PageKept, PageChanges, AnswerKeeps, OwnBytes}
 use Rattle.stream.proofs.Bools.{differ, and-both}
 use Rattle.command.proofs.Keeps.{value-allowed, effect-row, keeps-allowed, saves-then}

@@ -1,10 +1,9 @@
 -- The bytes of a message that handling looks at, and what it is about, case by case.
 use Prim.Native.Nat.{ℕ, zero, suc, _+_, _%_, _≤_, _<_}
 use native.Mathlib.Omega.{arith}
-use mathlib.Core.Path.{_≡_, refl, sym, _∙_, ap}
-use mathlib.Core.Bool.{Bool, true, false}
+use mathlib.Core.Path.{_≡_, refl, sym, _∙_}
+use mathlib.Core.Bool.{Bool}
 use mathlib.Core.List.{List, [], _∷_}
-use lib.Dec.{eqb}
 use lib.ListN.{length, getD, take, drop}
 use lib.Seq.{getD-take, getD-drop}
 use borrow.Author.Tests.{eq-eqb, ne-eqb}
@@ -13,10 +12,8 @@ use Rattle.page.specs.declared.setting.Setting.{Setting}
 use Rattle.page.specs.declared.setting.Coded.{Coded}
 use Rattle.page.specs.declared.setting.Coded.the-variants.{Setting as Known, Nothing}
 use Rattle.page.specs.Settings.{settingOf}
-use Rattle.command.specs.declared.command.Command.{Command}
-use Rattle.command.specs.declared.command.Subject.{Subject}
 use Rattle.command.specs.declared.command.Subject.the-variants.{Ping, Setting as About, Unknown}
-use Rattle.command.specs.Command.{commandOf, subjectOf}
+use Rattle.command.specs.Command.{payloadByte, commandOf, subjectOf}
 
 -- ---- a byte of the payload
 
@@ -42,6 +39,10 @@ unfolding commandOf
 command-read w good kind x l code size function first b4 b5 b6 all ek ex el e0 e1 e2 e3 e4 e5 e6 ea =
     let q : l ≡ getD w 3 0 % 256 = rw ex at el in
     rw (ea, ek, e0, e1, e2, e3, e4, e5, e6, q)
+
+-- The first byte of the payload, from the length byte that was read.
+pub echo-read : (w : List ℕ) (x l r : ℕ) → x ≡ getD w 3 0 → l ≡ x % 256 → r ≡ getD (take l (drop 4 w)) 0 0 → r ≡ payloadByte w 0
+echo-read w x l r ex el e = let q : l ≡ getD w 3 0 % 256 = rw ex at el in rw q at e
 
 -- ---- what a type and a code are about
 

@@ -1,9 +1,9 @@
 -- The tests of the error table, case by case.
-use Prim.Native.Nat.{ℕ, zero, suc, _+_, _≤_, _<_}
+use Prim.Native.Nat.{ℕ, _+_, _≤_, _<_}
 use native.Mathlib.Omega.{arith}
-use mathlib.Core.Path.{_≡_, refl, sym, _∙_, ap}
+use mathlib.Core.Path.{_≡_, refl, sym, _∙_}
 use mathlib.Core.Bool.{Bool, true, false, _&&_, _||_, not, or-true, or-false}
-use lib.Dec.{eqb, leb}
+use lib.Dec.{eqb}
 use borrow.Author.Tests.{eq-eqb, ne-eqb, le-leb, lt-leb, not-true, not-false}
 use Rattle.page.specs.declared.setting.Setting.{Setting}
 use Rattle.page.specs.declared.setting.Setting.the-variants.{Baud, Accelerometer, Gyroscope}
@@ -13,7 +13,8 @@ use Rattle.command.specs.declared.command.Command.{Command}
 use Rattle.command.specs.declared.command.Subject.{Subject}
 use Rattle.command.specs.declared.command.Subject.the-variants.{Ping, Setting as About, Unknown}
 use Rattle.command.specs.Command.{valueFor, subjectOf}
-use Rattle.command.specs.Errors.{isUnknown, fieldWrong, fieldError, errorOf}
+use Rattle.message.specs.Whole.{refuse}
+use Rattle.command.specs.Errors.{isUnknown, fieldWrong, typeError, fieldError, errorOf}
 use Rattle.command.specs.Handle.{settingsAllowed}
 
 -- ---- the size
@@ -108,19 +109,44 @@ module _ (subject : Subject) (c : Command) where
 
 -- ---- the message
 
-module _ (c : Command) where
-  pub error-sums : not (c .good) ≡ true → 1 ≡ errorOf c
-  unfolding errorOf
-  error-sums e = rw e
+module _ (good : Bool) (kind : ℕ) where
+  pub type-damaged : not good ≡ true → 1 ≡ typeError good kind
+  unfolding typeError
+  type-damaged e = rw e
 
-  module _ (good : not (c .good) ≡ false) (k : Bool) (ks : k ≡ eqb (c .kind) 0x01 || eqb (c .kind) 0x02) where
-    pub error-kind : not k ≡ true → 2 ≡ errorOf c
-    unfolding errorOf
-    error-kind e = rw (good, ← ks, e)
+  module _ (h : not good ≡ false) (k : Bool) (ks : k ≡ eqb kind 0x01 || eqb kind 0x02) where
+    pub type-other : k ≡ false → 2 ≡ typeError good kind
+    unfolding typeError
+    type-other e = rw (h, ← ks, e)
 
-    pub error-of-field : not k ≡ false → (s : Subject) → s ≡ subjectOf (c .kind) (c .code) → (r : ℕ) → r ≡ fieldError s c → r ≡ errorOf c
-    unfolding errorOf fieldError
-    error-of-field e s ss r rs = rs ∙ rw (good, ← ks, e, ← ss)
+    pub type-right : k ≡ true → 0 ≡ typeError good kind
+    unfolding typeError
+    type-right e = rw (h, ← ks, e)
+
+-- Two tests, and those behind them where both pass.
+module _ (a b : Bool) (next : ℕ) where
+  abbrev tested : ℕ → ℕ
+  tested n = refuse a 1 (refuse b 2 n)
+
+either-refuses : (a b : Bool) (next : ℕ) → (tested a b next 0 ≡ 0 → ⊥) → tested a b next 0 ≡ tested a b next next
+either-refuses true b next n = refl
+either-refuses false true next n = refl
+either-refuses false false next n = absurd (n refl)
+
+both-pass : (a b : Bool) (next : ℕ) → tested a b next 0 ≡ 0 → next ≡ tested a b next next
+both-pass true b next e = absurd (omega (arith, e))
+both-pass false true next e = absurd (omega (arith, e))
+both-pass false false next e = refl
+
+module _ (c : Command) (t : ℕ) (ts : t ≡ typeError (c .good) (c .kind)) where
+  pub error-type : (t ≡ 0 → ⊥) → t ≡ errorOf c
+  unfolding errorOf typeError
+  error-type n = ts ∙ either-refuses (not (c .good)) (not (eqb (c .kind) 0x01 || eqb (c .kind) 0x02)) _ (λ z. n (ts ∙ z))
+
+  pub error-of-field : t ≡ 0 → (s : Subject) → s ≡ subjectOf (c .kind) (c .code) → (r : ℕ) → r ≡ fieldError s c → r ≡ errorOf c
+  unfolding errorOf typeError fieldError
+  error-of-field z s ss r rs =
+      rs ∙ rw ss (both-pass (not (c .good)) (not (eqb (c .kind) 0x01 || eqb (c .kind) 0x02)) _ (sym ts ∙ z))
 
 module _ (kind : ℕ) where
   pub kind-one : kind ≡ 0x01 → true ≡ eqb kind 0x01 || eqb kind 0x02

@@ -1,6 +1,6 @@
 -- Document 01, "Handling one message", on the board: the answer to a command, with the reply room and the page afterwards.
 use mathlib.Core.Bool.{Bool, true, false}
-use mathlib.Core.List.{List, [], _∷_}
+use mathlib.Core.List.{List}
 use mathlib.Core.Option.{Option, none, some}
 use Prim.Native.Nat.{ℕ}
 use lib.ListN.{getD, take}

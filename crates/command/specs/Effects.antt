@@ -1,12 +1,10 @@
 -- Document 01, "Handling one message": what an accepted command does.
-use mathlib.Core.Bool.{Bool, true, false}
-use mathlib.Core.List.{List, [], _∷_, _++_}
+use mathlib.Core.List.{List, [], _∷_}
 use mathlib.Core.Option.{Option, none, some}
 use Prim.Native.Nat.{ℕ, zero, suc, _<_}
-use lib.ListN.{length}
 use Rattle.page.specs.declared.setting.Setting.{Setting}
 use Rattle.page.specs.declared.setting.Setting.the-variants.{Baud, Accelerometer, Gyroscope}
-use Rattle.page.specs.Settings.{codeOf, allowed, valueBytes, valueSize, factoryValue}
+use Rattle.page.specs.Settings.{codeOf, valueBytes, valueSize, factoryValue}
 use Rattle.message.specs.Message.{messageOf}
 use Rattle.command.specs.declared.settings.Settings.{Settings}
 use Rattle.command.specs.declared.command.Command.{Command}
@@ -75,10 +73,13 @@ effectOn (suc n) e w = leaving w
 unfoldable pub effectOf : (Setting → ℕ) → Settings → Command → Effect
 effectOf loaded w c = effectOn (errorOf c) (fieldEffect (subjectOf (c .kind) (c .code)) loaded w c) w
 
--- The reply's payload: one field 80 with size 2, echo and error; an accepted function 2 adds a second field. The echo is the
--- first payload byte, or 0 if L = 0.
+-- One field 80 with size 2, echo and error; an accepted function 2 adds a second field.
+abbrev pub replyRows : ℕ → ℕ → List ℕ → List ℕ
+replyRows echo error row = 0x80 ∷ 0x02 ∷ echo ∷ error ∷ row
+
+-- The reply's payload. The echo is the first payload byte, or 0 if L = 0.
 abbrev pub replyPayload : Command → ℕ → List ℕ → List ℕ
-replyPayload c error row = 0x80 ∷ 0x02 ∷ c .code ∷ error ∷ row
+replyPayload c error row = replyRows (c .code) error row
 
 -- The reply has the received type.
 unfoldable pub replyOf : (Setting → ℕ) → Settings → Command → List ℕ

@@ -2,7 +2,6 @@
 use mathlib.Core.Bool.{Bool, true, false, _&&_, _||_, not}
 use Prim.Native.Nat.{ℕ, _+_}
 use lib.Dec.{eqb, leb}
-use Rattle.page.specs.declared.setting.Setting.{Setting}
 use Rattle.page.specs.Settings.{allowed, valueSize}
 use Rattle.message.specs.Whole.{refuse}
 use Rattle.command.specs.declared.command.Command.{Command}
@@ -51,6 +50,10 @@ errorOf c =
     (refuse (eqb (c .length) 0 || isUnknown (subjectOf (c .kind) (c .code))) 3
     (refuse (eqb (c .length) 1 || not (eqb (c .size + 2) (c .length)) || fieldWrong (subjectOf (c .kind) (c .code)) c) 4
     0)))
+
+-- The first two tests of that chain, which need nothing of the payload.
+unfoldable pub typeError : Bool → ℕ → ℕ
+typeError good kind = refuse (not good) 1 (refuse (not (eqb kind 0x01 || eqb kind 0x02)) 2 0)
 
 -- The last two tests of that chain, which an inner function of the code makes.
 unfoldable pub fieldError : Subject → Command → ℕ

@@ -1,6 +1,6 @@
 -- One message handled as a call of its own, with every argument tested. A feed tests its arguments itself, and answers the
 -- command at once.
-use mathlib.Core.Bool.{Bool, true, false, _&&_, not}
+use mathlib.Core.Bool.{Bool, false, _&&_, not}
 use mathlib.Core.List.{List}
 use Prim.Native.Nat.{ℕ, zero, suc}
 use lib.Dec.{eqb, ltb}

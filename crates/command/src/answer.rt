@@ -1,7 +1,7 @@
 // The answer to a command: the reply, and what becomes of the settings and the page.
 ghost use mathlib.Core.Path.{_≡_};
 ghost use mathlib.Core.Bool.{false};
-ghost use mathlib.Core.List.{[], _∷_};
+ghost use mathlib.Core.List.{[], _∷_, _++_};
 ghost use Prim.Native.Nat.{_%_};
 ghost use Rattle.page.specs.Lookup.{valuesIn};
 ghost use Rattle.page.specs.Page.{withValue};
@@ -9,16 +9,20 @@ ghost use Rattle.page.specs.Sound.{pageWriting};
 ghost use Rattle.message.specs.Write.{plainWriting};
 ghost use Rattle.word.specs.Word.{wordBytes};
 ghost use Rattle.command.specs.Answer.{loadedFrom, answerWith, answering};
-ghost use Rattle.command.specs.Command.{valueFor};
-ghost use Rattle.command.specs.Effects.{Fits, valueRow, functionEffect, replyPayload};
+ghost use Rattle.command.specs.Command.{valueFor, commandOf};
+ghost use Rattle.command.specs.Effects.{Fits, valueRow, functionEffect, replyRows, replyPayload};
 use crate::command::Command;
 use crate::command::Subject;
+use crate::command::command_over;
+use crate::command::echo_over;
 use crate::command::subject_of;
 use crate::errors::error_of;
+use crate::errors::type_error;
 use crate::errors::value_for;
 use crate::settings::Settings;
 use crate::settings::loaded_from;
 use message::Written;
+use message::byte_over;
 use page::Setting;
 
 pub struct Answer {
@@ -32,11 +36,11 @@ pub struct Answer {
 }
 
 // The reply without a value.
-fn write_plain(c: Command, error: u8, room: &mut [u8]) -> Written
-    ensures { λ r. ⌜ record { answer = r; room = now (room .exit) } ≡ plainWriting (c .kind) (replyPayload c error []) (now (room .entry)) ⌝ }
+fn write_plain(kind: u8, echo: u8, error: u8, room: &mut [u8]) -> Written
+    ensures { λ r. ⌜ record { answer = r; room = now (room .exit) } ≡ plainWriting kind (replyRows echo error []) (now (room .entry)) ⌝ }
 {
-    let rows = [0x80, 0x02, c.code, error];
-    message::write_message(c.kind, &rows, room)
+    let rows = [0x80, 0x02, echo, error];
+    message::write_message(kind, &rows, room)
 }
 
 // The reply with a value of one byte, and of four.
@@ -103,11 +107,11 @@ fn settings_after(function: u8, setting: Setting, sent: u32, w: Settings, page: 
 }
 
 // The answer that changes nothing.
-fn unchanged(c: Command, error: u8, w: Settings, room: &mut [u8]) -> Answer
-    ensures { λ r. ⌜ r ≡ record { error = error; saved = false; length = plainWriting (c .kind) (replyPayload c error []) (now (room .entry)) .answer .length; settings = w } ⌝ }
-    ensures { λ _. ⌜ now (room .exit) ≡ plainWriting (c .kind) (replyPayload c error []) (now (room .entry)) .room ⌝ }
+fn unchanged(kind: u8, echo: u8, error: u8, w: Settings, room: &mut [u8]) -> Answer
+    ensures { λ r. ⌜ r ≡ record { error = error; saved = false; length = plainWriting kind (replyRows echo error []) (now (room .entry)) .answer .length; settings = w } ⌝ }
+    ensures { λ _. ⌜ now (room .exit) ≡ plainWriting kind (replyRows echo error []) (now (room .entry)) .room ⌝ }
 {
-    let reply = write_plain(c, error, room);
+    let reply = write_plain(kind, echo, error, room);
     Answer {
         error,
         saved: false,
@@ -132,7 +136,7 @@ fn obey(c: Command, setting: Setting, w: Settings, room: &mut [u8], page: &mut [
             settings: w,
         };
     }
-    let reply = write_plain(c, 0, room);
+    let reply = write_plain(c.kind, c.code, 0, room);
     if function == 3 {
         save(setting, working, page);
         return Answer {
@@ -150,18 +154,38 @@ fn obey(c: Command, setting: Setting, w: Settings, room: &mut [u8], page: &mut [
     }
 }
 
-// Answers a command: writes the reply to the front of `room` and, where a save is accepted, the page. The settings, the
-// room and the page are taken as they are: a feed has tested them.
-pub fn answer_command(c: Command, w: Settings, room: &mut [u8], page: &mut [u8]) -> Answer
+// Answers a command: writes the reply to the front of `room` and, where a save is accepted, the page.
+pub(crate) fn answer_command(c: Command, w: Settings, room: &mut [u8], page: &mut [u8]) -> Answer
     ensures { λ r. ⌜ record { answer = r; room = now (room .exit); page = now (page .exit) } ≡ answering c w (now (room .entry)) (now (page .entry)) ⌝ }
 {
     let error = error_of(c);
     if error != 0 {
-        return unchanged(c, error, w, room);
+        return unchanged(c.kind, c.code, error, w, room);
     }
     match subject_of(c.kind, c.code) {
-        Subject::Ping => unchanged(c, 0, w, room),
+        Subject::Ping => unchanged(c.kind, c.code, 0, w, room),
         Subject::Setting(s) => obey(c, s, w, room, page),
-        Subject::Unknown => unchanged(c, 0, w, room),
+        Subject::Unknown => unchanged(c.kind, c.code, 0, w, room),
     }
+}
+
+// Answers the message at the front of `held` and then `chunk`. The settings, the room and the page are taken as they are: a
+// feed has tested them. A message that is damaged or of another type is told by its type and its first payload byte alone, so
+// that noise and data messages are answered without a look at the rest.
+pub fn answer_over(
+    held: &[u8],
+    chunk: &[u8],
+    good: bool,
+    w: Settings,
+    room: &mut [u8],
+    page: &mut [u8],
+) -> Answer
+    ensures { λ r. ⌜ record { answer = r; room = now (room .exit); page = now (page .exit) } ≡ answering (commandOf good (now (held .entry) ++ now (chunk .entry))) w (now (room .entry)) (now (page .entry)) ⌝ }
+{
+    let kind = byte_over(held, chunk, 2);
+    let error = type_error(good, kind);
+    if error != 0 {
+        return unchanged(kind, echo_over(held, chunk), error, w, room);
+    }
+    answer_command(command_over(held, chunk, good), w, room, page)
 }

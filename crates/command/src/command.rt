@@ -3,7 +3,7 @@ ghost use mathlib.Core.Path.{_≡_};
 ghost use mathlib.Core.List.{_++_};
 ghost use Prim.Native.Nat.{_%_, _<_};
 ghost use lib.ListN.{getD, take, drop};
-ghost use Rattle.command.specs.Command.{commandOf, subjectOf};
+ghost use Rattle.command.specs.Command.{payloadByte, commandOf, subjectOf};
 use message::byte_over;
 use page::Coded;
 use page::Setting;
@@ -49,8 +49,16 @@ fn payload_byte(held: &[u8], chunk: &[u8], l: usize, i: usize) -> u8
     }
 }
 
+// The first payload byte of the message at the front of `held` and then `chunk`, or 0 if L = 0: what a reply echoes.
+pub(crate) fn echo_over(held: &[u8], chunk: &[u8]) -> u8
+    ensures { λ r. ⌜ r ≡ payloadByte (now (held .entry) ++ now (chunk .entry)) 0 ⌝ }
+{
+    let l = length_from(byte_over(held, chunk, 3));
+    payload_byte(held, chunk, l, 0)
+}
+
 // The message at the front of `held` and then `chunk`.
-pub fn command_over(held: &[u8], chunk: &[u8], good: bool) -> Command
+pub(crate) fn command_over(held: &[u8], chunk: &[u8], good: bool) -> Command
     ensures { λ r. ⌜ r ≡ commandOf good (now (held .entry) ++ now (chunk .entry)) ⌝ }
 {
     let l = length_from(byte_over(held, chunk, 3));
@@ -72,7 +80,7 @@ pub fn command_over(held: &[u8], chunk: &[u8], good: bool) -> Command
     }
 }
 
-pub fn subject_of(kind: u8, code: u8) -> Subject
+pub(crate) fn subject_of(kind: u8, code: u8) -> Subject
     ensures { λ r. ⌜ r ≡ subjectOf kind code ⌝ }
 {
     if kind == 0x01 {

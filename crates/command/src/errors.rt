@@ -4,7 +4,7 @@ ghost use mathlib.Core.Bool.{_&&_, _||_, not};
 ghost use lib.Dec.{eqb};
 ghost use Rattle.command.specs.Command.{valueFor};
 ghost use Rattle.command.specs.Effects.{Fits};
-ghost use Rattle.command.specs.Errors.{isUnknown, fieldWrong, fieldError, errorOf};
+ghost use Rattle.command.specs.Errors.{isUnknown, fieldWrong, typeError, fieldError, errorOf};
 ghost use Rattle.command.specs.declared.command.Subject.the-variants.{Setting as About};
 use crate::command::Command;
 use crate::command::Subject;
@@ -109,14 +109,22 @@ fn is_kind(kind: u8) -> bool
     kind == 0x02
 }
 
-pub fn error_of(c: Command) -> u8
-    ensures { λ r. ⌜ r ≡ errorOf c ⌝ }
+// 1 or 2 where the sums or the type refuse a message, 0 where both pass: the tests that need nothing of its payload.
+pub(crate) fn type_error(good: bool, kind: u8) -> u8
+    ensures { λ r. ⌜ r ≡ typeError good kind ⌝ }
 {
-    if !c.good {
+    if !good {
         return 1;
     }
-    if !is_kind(c.kind) {
-        return 2;
+    if is_kind(kind) { 0 } else { 2 }
+}
+
+pub(crate) fn error_of(c: Command) -> u8
+    ensures { λ r. ⌜ r ≡ errorOf c ⌝ }
+{
+    let error = type_error(c.good, c.kind);
+    if error != 0 {
+        return error;
     }
     field_error(subject_of(c.kind, c.code), c)
 }

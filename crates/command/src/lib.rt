@@ -7,12 +7,9 @@ mod handle;
 mod settings;
 
 pub use answer::Answer;
-pub use answer::answer_command;
+pub use answer::answer_over;
 pub use command::Command;
 pub use command::Subject;
-pub use command::command_over;
-pub use command::subject_of;
-pub use errors::error_of;
 pub use handle::Handled;
 pub use handle::handle_message;
 pub use settings::Settings;

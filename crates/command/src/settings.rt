@@ -23,7 +23,7 @@ pub(crate) fn wide(x: u8) -> u32
 }
 
 impl Settings {
-    pub fn value(self, setting: Setting) -> u32
+    pub(crate) fn value(self, setting: Setting) -> u32
         ensures { λ r. ⌜ r ≡ workingValue self setting ⌝ }
     {
         match setting {

@@ -1,7 +1,6 @@
 -- `board::feeding::keep_after` meets its contract.
 use Rattle.board.proofs.Places.{found-in, found-some, kept-after, kept-inside, kept-few, left-long, left-kept}
 use Prim.Native.Nat.{_+_, _≤_}
-use native.Mathlib.Omega.{arith}
 use lib.ListN.{length}
 use borrow.Author.Needs.{needs}
 use Rattle.board.proofs.feeding.keep_after.Statement.{statement}

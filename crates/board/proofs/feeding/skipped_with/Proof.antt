@@ -1,5 +1,5 @@
 -- `board::feeding::skipped_with` meets its contract.
-use Rattle.board.proofs.Starts.{skipped-good, skipped-damaged}
+use Rattle.board.proofs.Starts.{skipped-damaged}
 use borrow.Author.Needs.{needs}
 use Rattle.board.proofs.feeding.skipped_with.Statement.{statement}
 use Rattle.board.proofs.feeding.skipped_with.Tie as tie

@@ -1,5 +1,4 @@
 -- `board::feeding::step` meets its contract.
-use mathlib.Core.Path.{_∙_, sym}
 use Rattle.board.proofs.Places.{starved-step, sought-is}
 use borrow.Author.Needs.{needs}
 use Rattle.board.proofs.feeding.step.Statement.{statement}

@@ -1,11 +1,11 @@
 -- `board::keep::clear_from` meets its contract.
 use Rattle.board.proofs.Kept.{clear-none, clear-all}
 use native.Mathlib.Omega.{arith}
-use Prim.Native.Nat.{ℕ, _+_, _-_, _<_, _≤_}
-use mathlib.Core.Path.{_≡_, _∙_, sym, refl}
-use mathlib.Core.List.{List, _++_, append-assoc, append-nil}
-use lib.ListN.{length, take, drop, getD, replicate, length-drop, length-append, length-replicate, take-append-drop}
-use lib.Seq.{length-take-le, drop-length}
+use Prim.Native.Nat.{_+_, _-_, _≤_}
+use mathlib.Core.Path.{_≡_, _∙_}
+use mathlib.Core.List.{_++_}
+use lib.ListN.{length, take, drop, replicate, length-append, length-replicate}
+use lib.Seq.{length-take-le}
 use denote.Ref.{now}
 use borrow.Author.Needs.{needs}
 use Rattle.board.proofs.Kept.{clear-suc, clear-length}

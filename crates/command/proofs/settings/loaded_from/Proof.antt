@@ -1,5 +1,4 @@
 -- `command::settings::loaded_from` meets its contract, by the setting.
-use native.Mathlib.Omega.{arith}
 use Rattle.command.proofs.Loads.{loaded-baud, loaded-accelerometer, loaded-gyroscope, fits-baud, fits-accelerometer, fits-gyroscope}
 use borrow.Author.Needs.{needs}
 use Rattle.command.proofs.settings.loaded_from.Statement.{statement}
