@@ -10,25 +10,24 @@ use Rattle.stream.specs.declared.Sought.the-variants.{Starved, Found}
 use Rattle.stream.specs.Seek.{seek, resume}
 use Rattle.message.specs.Front.{front}
 use Rattle.message.proofs.Framed.{cutting-harmless}
-use Rattle.board.specs.declared.board.Board.{Board}
-use Rattle.board.specs.declared.board.Fed.{Fed}
-use Rattle.board.specs.Port.{heldBytes, portHolding}
-use Rattle.board.specs.Feed.{Feeding, feedNumber, leftOf, stepOn, stepOf, feedOn, acceptOn, feedOf}
+use Rattle.command.specs.declared.settings.Settings.{Settings}
+use Rattle.board.specs.declared.feeding.Stepped.{Stepped}
+use Rattle.board.specs.Feed.{leftOf, stepOn, stepOf, Stepping, inPlace, placeNumber, placeOn, placeOf}
 use Rattle.board.proofs.Places.{resume-in, resume-past}
 use Rattle.lister.specs.Moves.{Moves}
 
-module _ (b : Board) (chunk room page : List ℕ) where
+module _ (bytes : List ℕ) (old : ℕ) (w : Settings) (chunk room page : List ℕ) where
   abbrev held : List ℕ
-  held = heldBytes (b .first)
+  held = take old bytes
 
-  abbrev Fine : Fed → Type 0
-  Fine f = Moves (b .first .held) chunk (f .number) (f .taken) (f .board .first .held)
+  abbrev Fine : Stepped → Type 0
+  Fine s = Moves old chunk (s .number) (s .taken) (s .held)
 
-  held-few : length held ≤ b .first .held
-  held-few = omega (arith, length-take (b .first .held) (b .first .bytes))
+  held-few : length held ≤ old
+  held-few = omega (arith, length-take old bytes)
 
   found-moves : (k n : ℕ) (good : Bool) → seek front (held ++ chunk) ≡ Found k n good
-      → Moves (b .first .held) chunk 0 (k + n - length held) (length (leftOf k n good held chunk))
+      → Moves old chunk 0 (k + n - length held) (length (leftOf k n good held chunk))
   found-moves k n good e =
       let s = cutting-harmless .found-sized (held ++ chunk) k n good e in
       let l = length-append held chunk in
@@ -39,26 +38,25 @@ module _ (b : Board) (chunk room page : List ℕ) where
       let d = length-drop (resume k n good) (held ++ take (k + n - length held) chunk) in
       record { inside = omega (arith, s .inside); fewer = λ _. omega (arith, s .inside, held-few) }
 
-  step-moves : (s : Sought) → seek front (held ++ chunk) ≡ s → Fine (feedOn (stepOn s held (b .settings) chunk room page) 0 b .answer)
-  unfolding portHolding
+  step-moves : (s : Sought) → seek front (held ++ chunk) ≡ s → Fine (inPlace (stepOn s held w chunk room page) .step)
   step-moves (Found k n good) e = found-moves k n good e
   step-moves (Starved k) e = record { inside = omega arith; fewer = λ z. let w : ⊥ = omega arith in absurd w }
 
-  accept-moves : (m : ℕ) → Fine (acceptOn m 0 b chunk room page .answer)
+  place-moves : (m : ℕ) → Fine (placeOn m bytes old w chunk room page .step)
   unfolding stepOf
-  accept-moves zero = step-moves (seek front (held ++ chunk)) refl
-  accept-moves (suc m) = record { inside = omega arith; fewer = λ z. let w : ⊥ = omega arith in absurd w }
+  place-moves zero = step-moves (seek front (held ++ chunk)) refl
+  place-moves (suc m) = record { inside = omega arith; fewer = λ z. let w : ⊥ = omega arith in absurd w }
 
-  feed-moves : Fine (feedOf 0 b chunk room page .answer)
-  unfolding feedOf
-  feed-moves = accept-moves (feedNumber 0 (b .first .held) (b .second .held) (b .settings) room page)
+  feed-moves : Fine (placeOf 0 bytes old 0 w chunk room page .step)
+  unfolding placeOf
+  feed-moves = place-moves (placeNumber 0 bytes old 0 w room page)
 
-pub fed-moves : (b : Board) (chunk room page roomAfter pageAfter : List ℕ) (f : Fed) (old : ℕ) → old ≡ b .first .held
-    → record { answer = f; room = roomAfter; page = pageAfter } ≡ feedOf 0 b chunk room page
-    → Moves old chunk (f .number) (f .taken) (f .board .first .held)
-fed-moves b chunk room page roomAfter pageAfter f old o e =
-    let g : f ≡ feedOf 0 b chunk room page .answer = ap (λ (x : Feeding). x .answer) e in
-    rw (o, g) (feed-moves b chunk room page)
+pub fed-moves : (bytes : List ℕ) (old : ℕ) (w : Settings) (chunk room page bytesAfter roomAfter pageAfter : List ℕ) (s : Stepped)
+    → record { step = s; bytes = bytesAfter; room = roomAfter; page = pageAfter } ≡ placeOf 0 bytes old 0 w chunk room page
+    → Moves old chunk (s .number) (s .taken) (s .held)
+fed-moves bytes old w chunk room page bytesAfter roomAfter pageAfter s e =
+    let g : s ≡ placeOf 0 bytes old 0 w chunk room page .step = ap (λ (x : Stepping). x .step) e in
+    rw g (feed-moves bytes old w chunk room page)
 
 -- In a piece of which `at` bytes are taken.
 module _ (piece : List ℕ) (at held number taken after : ℕ) (h : at ≤ length piece)

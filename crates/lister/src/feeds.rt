@@ -1,13 +1,16 @@
 // The feeds of a listing.
 ghost use Rattle.lister.specs.Moves.{Moves};
 use crate::output::gather_line;
-use board::Board;
 use board::Port;
+use command::Settings;
 use std::num::wrapping_add_u64;
 
-// How far a listing has come.
+// How far a listing has come. The board is fed in place: what port 0 holds stays in an array of its own, which goes along as a
+// lent slice, and port 1 holds nothing.
 pub struct Progress {
-    pub board: Board,
+    // the bytes that port 0 holds, and the working values
+    pub held: usize,
+    settings: Settings,
     // bytes over the whole input; 2^64 bytes cannot be read, so that these do not wrap
     pub taken: u64,
     pub skipped: u64,
@@ -21,9 +24,10 @@ pub struct Progress {
 impl Progress {
     pub(crate) fn start(page: &[u8], used: usize) -> Self {
         let started = board::start(page);
-        let board = started.board;
+        let settings = started.board.settings;
         Progress {
-            board,
+            held: 0,
+            settings,
             taken: 0,
             skipped: 0,
             number: 0,
@@ -33,15 +37,24 @@ impl Progress {
     }
 
     // One feed, and the line of the message that it finds.
-    fn feed(self, chunk: &[u8], page: &mut [u8], out: &mut [u8]) -> Self
-        ensures { λ r. ⌜ Moves (self .board .first .held) (now (chunk .entry)) (r .number) (r .last) (r .board .first .held) ⌝ }
+    fn feed(self, bytes: &mut [u8], chunk: &[u8], page: &mut [u8], out: &mut [u8]) -> Self
+        ensures { λ r. ⌜ Moves (self .held) (now (chunk .entry)) (r .number) (r .last) (r .held) ⌝ }
     {
         let mut reply = [0u8; Port::REPLY];
-        let before = self.board;
-        let fed = board::feed(0, before, chunk, &mut reply, page);
-        let after = fed.board;
+        let fed = board::feed_in_place(
+            0,
+            bytes,
+            self.held,
+            0,
+            self.settings,
+            chunk,
+            &mut reply,
+            page,
+        );
+        let settings = fed.settings;
         Progress {
-            board: after,
+            held: fed.held,
+            settings,
             taken: wrapping_add_u64(self.taken, fed.taken as u64),
             skipped: wrapping_add_u64(self.skipped, fed.skipped as u64),
             number: fed.number,
@@ -60,11 +73,17 @@ fn gather_found(number: u8, reply: &[u8; 16], saved: bool, used: usize, out: &mu
 
 // Feeds a piece until a feed answers 1. That a feed which answers 0 leaves fewer bytes, held or in the piece, is in the
 // contract of `feed`.
-pub(crate) fn feed_all(start: Progress, piece: &[u8], page: &mut [u8], out: &mut [u8]) -> Progress {
+pub(crate) fn feed_all(
+    start: Progress,
+    bytes: &mut [u8],
+    piece: &[u8],
+    page: &mut [u8],
+    out: &mut [u8],
+) -> Progress {
     let mut p = start;
     let mut at = 0;
     loop {
-        p = p.feed(&piece[at..], page, out);
+        p = p.feed(bytes, &piece[at..], page, out);
         if p.number != 0 {
             return p;
         }

@@ -3,32 +3,33 @@
 mod feeds;
 mod output;
 
+use board::Port;
 use feeds::Progress;
 
 fn main() {
     let mut out = io::large_buffer();
     let mut page = [0xFFu8; 64];
     let used = output::gather_heading(&mut out);
-    let end = list(Progress::start(&page, used), &mut page, &mut out);
-    let all = output::gather_counts(
-        end.taken,
-        end.skipped,
-        end.board.first.held,
-        end.used,
+    let mut bytes = [0u8; Port::ROOM];
+    let end = list(
+        Progress::start(&page, used),
+        &mut bytes,
+        &mut page,
         &mut out,
     );
+    let all = output::gather_counts(end.taken, end.skipped, end.held, end.used, &mut out);
     output::flush(all, &out);
 }
 
-// Feeds the input piece by piece, and then once more, at its end, with nothing. Nothing says that an input ends, so the
+// Feeds the input in pieces of 32 KiB, and then once more, at its end, with nothing. Nothing says that an input ends, so the
 // loop counts its turns down from a number that no run uses up.
-fn list(start: Progress, page: &mut [u8], out: &mut [u8]) -> Progress {
-    let mut piece = io::large_buffer();
+fn list(start: Progress, bytes: &mut [u8], page: &mut [u8], out: &mut [u8]) -> Progress {
+    let mut piece = [0u8; 32768];
     let mut p = start;
     let mut turns = u64::MAX;
     while turns > 0 {
         let n = io::read_full(0, &mut piece);
-        p = feeds::feed_all(p, &piece[..n], page, out);
+        p = feeds::feed_all(p, bytes, &piece[..n], page, out);
         if n == 0 {
             return p;
         }

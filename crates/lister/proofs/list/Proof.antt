@@ -6,13 +6,10 @@ use Rattle.lister.proofs.list.Statement.{statement}
 use Rattle.lister.proofs.list.Tie as tie
 
 abbrev Inv-loop : tie.InvT-loop
-Inv-loop page₀ out₀ piece₀ p₀ turns₀ page out piece p turns = (length page ≡ length page₀) × (length out ≡ length out₀) × (length piece ≡ 65536)
+Inv-loop bytes₀ page₀ out₀ piece₀ p₀ turns₀ bytes page out piece p turns = (length bytes ≡ length bytes₀) × (length page ≡ length page₀) × (length out ≡ length out₀) × (length piece ≡ 32768)
 
 abbrev μ-loop : tie.MeasureT-loop
-μ-loop page₀ out₀ piece₀ p₀ turns₀ page out piece p turns = turns
-
-large-buffer-requires : tie.Need-large-buffer-requires Inv-loop μ-loop
-large-buffer-requires c κs = search needs
+μ-loop bytes₀ page₀ out₀ piece₀ p₀ turns₀ bytes page out piece p turns = turns
 
 loop-holds : tie.Need-loop-holds Inv-loop μ-loop
 loop-holds c = search needs
@@ -38,6 +35,9 @@ same-length c = search needs
 same-length-2 : tie.Need-same-length-2 Inv-loop μ-loop
 same-length-2 c = search needs
 
+same-length-3 : tie.Need-same-length-3 Inv-loop μ-loop
+same-length-3 c = search needs
+
 returns : tie.Need-returns Inv-loop μ-loop
 returns c = search needs
 
@@ -50,11 +50,14 @@ loop-less c = search needs
 loop-again : tie.Need-loop-again Inv-loop μ-loop
 loop-again c = search needs
 
-same-length-3 : tie.Need-same-length-3 Inv-loop μ-loop
-same-length-3 c = search needs
-
 same-length-4 : tie.Need-same-length-4 Inv-loop μ-loop
 same-length-4 c = search needs
+
+same-length-5 : tie.Need-same-length-5 Inv-loop μ-loop
+same-length-5 c = search needs
+
+same-length-6 : tie.Need-same-length-6 Inv-loop μ-loop
+same-length-6 c = search needs
 
 returns-2 : tie.Need-returns-2 Inv-loop μ-loop
 returns-2 c = search needs
@@ -65,7 +68,6 @@ list-spec =
     (tie.spec
     Inv-loop
     μ-loop
-    large-buffer-requires
     loop-holds
     slice-aggregate-read-full
     read-full-requires
@@ -74,10 +76,12 @@ list-spec =
     feed-all-requires
     same-length
     same-length-2
+    same-length-3
     returns
     sub-turns
     loop-less
     loop-again
-    same-length-3
     same-length-4
+    same-length-5
+    same-length-6
     returns-2)

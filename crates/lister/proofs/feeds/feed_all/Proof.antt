@@ -2,18 +2,18 @@
 use Prim.Native.Nat.{_+_, _-_, _≤_, _<_}
 use mathlib.Core.Path.{_≡_}
 use native.Mathlib.Omega.{arith}
-use borrow.Author.Needs.{needs}
 use lib.ListN.{length}
 use denote.Ref.{now}
+use borrow.Author.Needs.{needs}
 use Rattle.lister.proofs.Moved.{piece-inside, piece-less}
 use Rattle.lister.proofs.feeds.feed_all.Statement.{statement}
 use Rattle.lister.proofs.feeds.feed_all.Tie as tie
 
 abbrev Inv-loop : tie.InvT-loop
-Inv-loop piece page₀ out₀ p₀ at₀ page out p at = (at ≤ length piece) × (length piece < 18446744073709551616) × (length page ≡ length page₀) × (length out ≡ length out₀)
+Inv-loop bytes₀ piece page₀ out₀ p₀ at₀ bytes page out p at = (at ≤ length piece) × (length piece < 18446744073709551616) × (length bytes ≡ length bytes₀) × (length page ≡ length page₀) × (length out ≡ length out₀)
 
 abbrev μ-loop : tie.MeasureT-loop
-μ-loop piece page₀ out₀ p₀ at₀ page out p at = p .board .first .held + (length piece - at)
+μ-loop bytes₀ piece page₀ out₀ p₀ at₀ bytes page out p at = p .held + (length piece - at)
 
 loop-holds : tie.Need-loop-holds Inv-loop μ-loop
 loop-holds c = search needs
@@ -36,12 +36,15 @@ same-length c = search needs
 same-length-2 : tie.Need-same-length-2 Inv-loop μ-loop
 same-length-2 c = search needs
 
+same-length-3 : tie.Need-same-length-3 Inv-loop μ-loop
+same-length-3 c = search needs
+
 returns : tie.Need-returns Inv-loop μ-loop
 returns c = search needs
 
 add-at : tie.Need-add-at Inv-loop μ-loop
 add-at c =
-    let l : c .before .before .before .before .before .before .before .before .before .before .before .loop .at + c .before .before .before .before .before .before .before .feed .result .last ≤ length (now (c .before .before .before .before .before .before .before .before .before .before .before .before .before .before .before .args .piece)) = search (piece-inside, needs) in
+    let l : c .before .before .before .before .before .before .before .before .before .before .before .before .before .before .loop .at + c .before .before .before .before .before .before .before .before .before .feed .result .last ≤ length (now (c .before .before .before .before .before .before .before .before .before .before .before .before .before .before .before .before .before .before .before .args .piece)) = search (piece-inside, needs) in
     omega arith
 
 loop-less : tie.Need-loop-less Inv-loop μ-loop
@@ -63,6 +66,7 @@ feed-all-spec =
     feed-requires
     same-length
     same-length-2
+    same-length-3
     returns
     add-at
     loop-less

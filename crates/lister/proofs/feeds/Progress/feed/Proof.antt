@@ -4,11 +4,11 @@ use borrow.Author.Needs.{needs}
 use Rattle.lister.proofs.feeds.Progress.feed.Statement.{statement}
 use Rattle.lister.proofs.feeds.Progress.feed.Tie as tie
 
-slice-aggregate-feed : tie.Need-slice-aggregate-feed
-slice-aggregate-feed c = search needs
+slice-aggregate-feed-in-place : tie.Need-slice-aggregate-feed-in-place
+slice-aggregate-feed-in-place c = search needs
 
-feed-requires : tie.Need-feed-requires
-feed-requires c κs = search needs
+feed-in-place-requires : tie.Need-feed-in-place-requires
+feed-in-place-requires c κs = search needs
 
 wrapping-add-u64-requires : tie.Need-wrapping-add-u64-requires
 wrapping-add-u64-requires c κs = search needs
@@ -25,6 +25,9 @@ same-length c = search needs
 same-length-2 : tie.Need-same-length-2
 same-length-2 c = search needs
 
+same-length-3 : tie.Need-same-length-3
+same-length-3 c = search needs
+
 returns : tie.Need-returns
 returns c = search (fed-moves, needs)
 
@@ -32,11 +35,12 @@ pub feed-spec : {M : Type 1} → statement M
 feed-spec =
     tie.close
     (tie.spec
-    slice-aggregate-feed
-    feed-requires
+    slice-aggregate-feed-in-place
+    feed-in-place-requires
     wrapping-add-u64-requires
     wrapping-add-u64-requires-2
     gather-found-requires
     same-length
     same-length-2
+    same-length-3
     returns)
