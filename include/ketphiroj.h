@@ -1,6 +1,7 @@
 /*
  * Ketphiroj's calls for C. Each call of the library is proved to answer exactly what its definition says, for every argument:
- * crates/capi/src has the contracts, crates/NAME/specs the definitions.
+ * crates/capi/src has the contracts, crates/NAME/specs the definitions. Not proved is what is C itself: the declarations below,
+ * and ketphiroj_feed_board, which stands here whole and puts two answers of a proved call back into the board.
  *
  * What a caller must see to, and nothing else:
  *   - a pointer with a length points to that many bytes, and is never NULL, not even with length 0;
@@ -48,9 +49,12 @@ enum {
     KETPHIROJ_NO_COMMAND = 28    /* not a command that the board accepts */
 };
 
-/* ---- the board: kept by the caller, fed by value or in place */
+/* ---- the board: kept by the caller, and fed in place */
 
-/* The first `held` bytes are unread; after a start or an accepted feed the others are 0. */
+/*
+ * The first `held` bytes are unread. The others are 0 after a start, and after an accepted feed in the port that was fed; the
+ * other port is as it came.
+ */
 typedef struct {
     uint8_t bytes[KETPHIROJ_PORT_ROOM];
     size_t held;
@@ -73,52 +77,41 @@ typedef struct {
     ketphiroj_board board;
 } ketphiroj_started;
 
-typedef struct {
-    uint8_t number;
-    size_t taken;   /* bytes taken from the chunk: feed again from there */
-    size_t skipped; /* bytes that the scan skipped */
-    bool saved;     /* whether a save was accepted: the page was written */
-    ketphiroj_board board;
-} ketphiroj_fed;
-
 /*
  * A board with two empty ports, on the settings that the page keeps, or on the factory's for those that it does not.
  * Numbers: 0; 19, 20: the board is then on the factory's settings.
  */
 ketphiroj_started ketphiroj_start(const uint8_t *page, size_t page_length);
 
-/*
- * Feeds a chunk to port 0 or 1.
- * 0: a message was answered. Its reply is at the front of `room`: 4 bytes, payload, 2 bytes, where byte 3 is the length of the
- *    payload; the rest of the room is left alone. Where `saved`, the page was written anew, else it is as it was.
- * 1: the whole chunk was taken, and there is nothing more to report. Nothing was written.
- * 16, 17, 18, 19, 20: refused. Nothing was taken or written, and the board is the one given.
- */
-ketphiroj_fed ketphiroj_feed(
-    uint8_t port, ketphiroj_board board, const uint8_t *chunk, size_t chunk_length, uint8_t *room, size_t room_length,
-    uint8_t *page, size_t page_length);
-
-/* What a feed in place answers: as a feed, with the named port's held count and the settings afterwards. */
+/* What a feed answers. The board is the caller's: `held` and `settings` are to be put back into it. */
 typedef struct {
+    size_t taken;   /* bytes taken from the chunk: feed again from there */
+    size_t skipped; /* bytes that the scan skipped */
+    size_t held;    /* what the named port holds now */
+    ketphiroj_settings settings; /* the working values now */
     uint8_t number;
-    size_t taken;
-    size_t skipped;
-    bool saved;
-    size_t held;
-    ketphiroj_settings settings;
+    bool saved;     /* whether a save was accepted: the page was written */
 } ketphiroj_stepped;
 
 /*
- * The same feed without a copy of the board: `bytes` are the 260 bytes of the named port, which are written in place, `first`
- * and `second` the held counts of ports 0 and 1. The caller puts the answer's held count and settings back into its board, as
- * ketphiroj_feed_board does. Numbers as for a feed; an array that is not 260 bytes gives 17. A refusal answers the held count
- * and the settings given.
+ * Feeds a chunk to port 0 or 1. `bytes` are the 260 bytes of the named port, which are written in place, `first` and `second`
+ * the held counts of ports 0 and 1. The caller puts the answer's held count and settings back into its board, as
+ * ketphiroj_feed_board does.
+ * 0: a message was answered. Its reply is at the front of `room`: 4 bytes, payload, 2 bytes, where byte 3 is the length of the
+ *    payload; the rest of the room is left alone. Where `saved`, the page was written anew, else it is as it was.
+ * 1: the whole chunk was taken, and there is nothing more to report. Nothing was written to the room or the page.
+ * 16, 17, 18, 19, 20: refused; an array that is not 260 bytes gives 17. Nothing was taken or written, and the held count and the
+ *    settings are those given.
  */
 ketphiroj_stepped ketphiroj_feed_in_place(
     uint8_t port, uint8_t *bytes, size_t bytes_length, size_t first, size_t second, ketphiroj_settings settings,
     const uint8_t *chunk, size_t chunk_length, uint8_t *room, size_t room_length, uint8_t *page, size_t page_length);
 
-/* Feeds a board that stays where it is. The fastest way, and the one with the least stack. */
+/*
+ * Feeds a chunk to port 0 or 1 of a board: numbers and buffers as with ketphiroj_feed_in_place. It writes the named port's bytes,
+ * its held count and the settings; the other port is left alone. A refusal leaves the board as it was. The call inside is
+ * proved; the choice of the port and the two assignments after the call are C, and are not.
+ */
 static inline ketphiroj_stepped ketphiroj_feed_board(
     uint8_t port, ketphiroj_board *board, const uint8_t *chunk, size_t chunk_length, uint8_t *room, size_t room_length,
     uint8_t *page, size_t page_length)
@@ -205,15 +198,21 @@ typedef struct {
 /* Is this page blank or sound? Numbers: 0; 19, 20. */
 uint8_t ketphiroj_check_page(const uint8_t *page, size_t page_length);
 
-/* The values on a page, 0 beside a `has_` that is false. The page is not tested: use ketphiroj_check_page. */
-ketphiroj_values ketphiroj_read_page(const uint8_t *page, size_t page_length);
+/* What reading a page answers: its values, 0 beside a `has_` that is false. With any number but 0 no value is there. */
+typedef struct {
+    ketphiroj_values values;
+    uint8_t number;
+} ketphiroj_page_read;
+
+/* Reads the values that a blank or sound page keeps. Numbers: 0; 19, 20. */
+ketphiroj_page_read ketphiroj_read_page(const uint8_t *page, size_t page_length);
 
 /* Writes all 64 bytes of the page, so that it keeps these values. Numbers: 0; 19, 20 (a value that is there is not allowed). */
 uint8_t ketphiroj_write_page(ketphiroj_values values, uint8_t *page, size_t page_length);
 
 /*
- * Copies the bytes under a code to the room's front: from the saved page if it has an entry, else from the factory page.
- * Number 0, with length 0 where neither has one, or where it runs past its page's end; 18.
+ * Copies the bytes under a code to the room's front: from the saved page if it has an entry, else from the factory page; length
+ * 0 where neither has one. Numbers: 0; 19, 20 of the saved page, then 19, 20 of the factory page, then 18.
  */
 ketphiroj_written ketphiroj_copy_body(
     const uint8_t *saved, size_t saved_length, const uint8_t *factory, size_t factory_length, uint8_t code, uint8_t *room,

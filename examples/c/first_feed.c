@@ -16,10 +16,9 @@ static size_t reply_length(void) {
     return 6u + room[3];
 }
 
-/* Feeds a chunk, keeps the board, and prints what was answered. */
+/* Feeds a chunk to the board, and prints what was answered. */
 static void feed(uint8_t port, const uint8_t *chunk, size_t length) {
-    ketphiroj_fed fed = ketphiroj_feed(port, board, chunk, length, room, sizeof room, page, sizeof page);
-    board = fed.board;
+    ketphiroj_stepped fed = ketphiroj_feed_board(port, &board, chunk, length, room, sizeof room, page, sizeof page);
     printf("port %u: number %u, taken %zu, skipped %zu", port, fed.number, fed.taken, fed.skipped);
     if (fed.number == KETPHIROJ_DONE) {
         printf(", reply");

@@ -15,19 +15,21 @@ _Static_assert(offsetof(ketphiroj_settings, gyroscope) == 5 && sizeof(ketphiroj_
 _Static_assert(offsetof(ketphiroj_board, second) == 272 && offsetof(ketphiroj_board, settings) == 544, "board");
 _Static_assert(sizeof(ketphiroj_board) == 552, "board");
 _Static_assert(offsetof(ketphiroj_started, board) == 8 && sizeof(ketphiroj_started) == 560, "started");
-_Static_assert(offsetof(ketphiroj_fed, taken) == 8 && offsetof(ketphiroj_fed, skipped) == 16, "fed");
-_Static_assert(offsetof(ketphiroj_fed, saved) == 24 && offsetof(ketphiroj_fed, board) == 32, "fed");
-_Static_assert(sizeof(ketphiroj_fed) == 584, "fed");
-_Static_assert(offsetof(ketphiroj_stepped, skipped) == 16 && offsetof(ketphiroj_stepped, saved) == 24, "stepped");
-_Static_assert(offsetof(ketphiroj_stepped, held) == 32 && offsetof(ketphiroj_stepped, settings) == 40, "stepped");
-_Static_assert(sizeof(ketphiroj_stepped) == 48, "stepped");
+_Static_assert(offsetof(ketphiroj_stepped, skipped) == 8 && offsetof(ketphiroj_stepped, held) == 16, "stepped");
+_Static_assert(offsetof(ketphiroj_stepped, settings) == 24 && offsetof(ketphiroj_stepped, number) == 32, "stepped");
+_Static_assert(offsetof(ketphiroj_stepped, saved) == 33 && sizeof(ketphiroj_stepped) == 40, "stepped");
 _Static_assert(offsetof(ketphiroj_written, length) == 8 && sizeof(ketphiroj_written) == 16, "written");
-_Static_assert(offsetof(ketphiroj_reply, has_value) == 4 && offsetof(ketphiroj_reply, value) == 8, "reply");
-_Static_assert(sizeof(ketphiroj_reply) == 12, "reply");
-_Static_assert(offsetof(ketphiroj_field, place) == 8 && offsetof(ketphiroj_field, x) == 16, "field");
-_Static_assert(sizeof(ketphiroj_field) == 32, "field");
-_Static_assert(offsetof(ketphiroj_values, baud) == 4 && offsetof(ketphiroj_values, gyroscope) == 20, "values");
-_Static_assert(sizeof(ketphiroj_values) == 24, "values");
+_Static_assert(offsetof(ketphiroj_reply, kind) == 1 && offsetof(ketphiroj_reply, echo) == 2, "reply");
+_Static_assert(offsetof(ketphiroj_reply, error) == 3 && offsetof(ketphiroj_reply, has_value) == 4, "reply");
+_Static_assert(offsetof(ketphiroj_reply, value) == 8 && sizeof(ketphiroj_reply) == 12, "reply");
+_Static_assert(offsetof(ketphiroj_field, code) == 1 && offsetof(ketphiroj_field, place) == 8, "field");
+_Static_assert(offsetof(ketphiroj_field, x) == 16 && offsetof(ketphiroj_field, y) == 20, "field");
+_Static_assert(offsetof(ketphiroj_field, z) == 24 && sizeof(ketphiroj_field) == 32, "field");
+_Static_assert(offsetof(ketphiroj_values, baud) == 4 && offsetof(ketphiroj_values, has_accelerometer) == 8, "values");
+_Static_assert(offsetof(ketphiroj_values, accelerometer) == 12 && offsetof(ketphiroj_values, has_gyroscope) == 16, "values");
+_Static_assert(offsetof(ketphiroj_values, gyroscope) == 20 && sizeof(ketphiroj_values) == 24, "values");
+_Static_assert(offsetof(ketphiroj_page_read, values) == 0 && offsetof(ketphiroj_page_read, number) == 24, "page read");
+_Static_assert(sizeof(ketphiroj_page_read) == 28, "page read");
 
 static int agreeing, differing;
 static uint8_t page[KETPHIROJ_PAGE_SIZE];
@@ -42,8 +44,17 @@ static void agree(bool same, const char *what) {
     }
 }
 
-static ketphiroj_fed feed(uint8_t port, ketphiroj_board board, const uint8_t *chunk, size_t length) {
-    return ketphiroj_feed(port, board, chunk, length, room, sizeof room, page, sizeof page);
+/* What a feed answers, and the board afterwards: the board given stays as it is, so that it can be fed again. */
+typedef struct {
+    ketphiroj_stepped answer;
+    ketphiroj_board board;
+} fed_board;
+
+static fed_board feed(uint8_t port, ketphiroj_board board, const uint8_t *chunk, size_t length) {
+    fed_board fed;
+    fed.answer = ketphiroj_feed_board(port, &board, chunk, length, room, sizeof room, page, sizeof page);
+    fed.board = board;
+    return fed;
 }
 
 /* Whether two boards agree in every field; what stands between the fields is nobody's. */
@@ -64,32 +75,37 @@ static void refusal_returns_board(void) {
     board.first.held = 0x1122334455667788;
     board.second.held = 0x99AABBCCDDEEFF00;
     board.settings = (ketphiroj_settings){0x12345678, 0x9A, 0xBC};
-    ketphiroj_fed fed = feed(2, board, room, 0);
-    agree(fed.number == KETPHIROJ_BAD_PORT && fed.taken == 0 && fed.skipped == 0 && !fed.saved, "a refusal");
+    fed_board fed = feed(2, board, room, 0);
+    ketphiroj_stepped refused = fed.answer;
+    agree(refused.number == KETPHIROJ_BAD_PORT && refused.taken == 0 && refused.skipped == 0 && !refused.saved, "a refusal");
     agree(same_board(fed.board, board), "the board that a refusal returns");
     board.first.held = 0;
-    agree(feed(0, board, room, 0).number == KETPHIROJ_BAD_BOARD, "second.held");
+    agree(feed(0, board, room, 0).answer.number == KETPHIROJ_BAD_BOARD, "second.held");
     board.second.held = 0;
-    agree(feed(0, board, room, 0).number == KETPHIROJ_BAD_BOARD, "settings");
+    agree(feed(0, board, room, 0).answer.number == KETPHIROJ_BAD_BOARD, "settings");
 }
 
 /* Each working value is looked at in its place: a wrong one alone is refused. */
 static void settings_are_looked_at(void) {
-    ketphiroj_board good = ketphiroj_start(page, sizeof page).board;
+    ketphiroj_started refused = ketphiroj_start(page, sizeof page - 1);
+    agree(refused.number == KETPHIROJ_PAGE_LENGTH && refused.board.settings.baud == 115200, "a start that is refused");
+    ketphiroj_started started = ketphiroj_start(page, sizeof page);
+    agree(started.number == KETPHIROJ_DONE, "a start");
+    ketphiroj_board good = started.board;
     agree(good.settings.baud == 115200 && good.settings.accelerometer == 2 && good.settings.gyroscope == 3, "started settings");
-    agree(feed(0, good, room, 0).number == KETPHIROJ_CHUNK_USED_UP, "a good board");
+    agree(feed(0, good, room, 0).answer.number == KETPHIROJ_CHUNK_USED_UP, "a good board");
     ketphiroj_board bad = good;
     bad.settings.baud = 1;
-    agree(feed(0, bad, room, 0).number == KETPHIROJ_BAD_BOARD, "settings.baud");
+    agree(feed(0, bad, room, 0).answer.number == KETPHIROJ_BAD_BOARD, "settings.baud");
     bad = good;
     bad.settings.accelerometer = 5;
-    agree(feed(0, bad, room, 0).number == KETPHIROJ_BAD_BOARD, "settings.accelerometer");
+    agree(feed(0, bad, room, 0).answer.number == KETPHIROJ_BAD_BOARD, "settings.accelerometer");
     bad = good;
     bad.settings.gyroscope = 8;
-    agree(feed(0, bad, room, 0).number == KETPHIROJ_BAD_BOARD, "settings.gyroscope");
+    agree(feed(0, bad, room, 0).answer.number == KETPHIROJ_BAD_BOARD, "settings.gyroscope");
     bad = good;
     bad.first.held = 261;
-    agree(feed(1, bad, room, 0).number == KETPHIROJ_BAD_BOARD, "first.held");
+    agree(feed(1, bad, room, 0).answer.number == KETPHIROJ_BAD_BOARD, "first.held");
 }
 
 /* Bytes are held in the port fed and are read there: a command begun by C is ended by a feed. */
@@ -97,35 +113,104 @@ static void ports_hold_bytes(void) {
     uint8_t save[16];
     size_t length = ketphiroj_write_command(0x08, 3, 0, save, sizeof save).length;
     ketphiroj_board board = ketphiroj_start(page, sizeof page).board;
-    ketphiroj_fed first = feed(0, board, save, 5);
-    agree(first.number == KETPHIROJ_CHUNK_USED_UP && first.taken == 5, "taken");
+    fed_board first = feed(0, board, save, 5);
+    agree(first.answer.number == KETPHIROJ_CHUNK_USED_UP && first.answer.taken == 5, "taken");
     agree(first.board.first.held == 5 && memcmp(first.board.first.bytes, save, 5) == 0, "first.bytes");
     agree(first.board.second.held == 0, "the other port");
     memcpy(board.second.bytes + 1, save, 5);
     board.second.held = 6;
-    ketphiroj_fed second = feed(1, board, save + 5, length - 5);
-    agree(second.number == KETPHIROJ_DONE && second.skipped == 1 && second.saved, "second.bytes, skipped, saved");
-    agree(second.taken == length - 5 && second.board.second.held == 0, "second.held after a message");
+    fed_board second = feed(1, board, save + 5, length - 5);
+    agree(second.answer.number == KETPHIROJ_DONE && second.answer.skipped == 1, "second.bytes, skipped");
+    agree(second.answer.saved, "saved");
+    agree(second.answer.taken == length - 5 && second.board.second.held == 0, "second.held after a message");
+}
+
+static bool same_values(ketphiroj_values a, ketphiroj_values b) {
+    return a.has_baud == b.has_baud && a.baud == b.baud && a.has_accelerometer == b.has_accelerometer
+        && a.accelerometer == b.accelerometer && a.has_gyroscope == b.has_gyroscope && a.gyroscope == b.gyroscope;
+}
+
+/* Whether the page is read with number 0 and keeps these values. */
+static bool keeps(ketphiroj_values values) {
+    ketphiroj_page_read read = ketphiroj_read_page(page, sizeof page);
+    return read.number == KETPHIROJ_DONE && same_values(read.values, values);
 }
 
 /* The values on the page that was just saved, and a struct of values handed in. */
 static void values_pass(void) {
-    ketphiroj_values v = ketphiroj_read_page(page, sizeof page);
-    agree(!v.has_baud && !v.has_accelerometer && v.has_gyroscope && v.gyroscope == 3, "values read");
+    agree(keeps((ketphiroj_values){false, 0, false, 0, true, 3}), "values read");
     ketphiroj_values w = {true, 9600, false, 99, true, 7};
     agree(ketphiroj_write_page(w, page, sizeof page) == KETPHIROJ_DONE, "values written");
-    v = ketphiroj_read_page(page, sizeof page);
-    agree(v.has_baud && v.baud == 9600 && !v.has_accelerometer && v.accelerometer == 0, "values back");
-    agree(v.has_gyroscope && v.gyroscope == 7, "the last value back");
+    agree(keeps((ketphiroj_values){true, 9600, false, 0, true, 7}), "values back");
     w.has_accelerometer = true;
     agree(ketphiroj_write_page(w, page, sizeof page) == KETPHIROJ_BAD_PAGE, "a value that is not allowed");
+    ketphiroj_values one = {false, 9600, true, 4, false, 7};
+    agree(ketphiroj_write_page(one, page, sizeof page) == KETPHIROJ_DONE, "one value written");
+    agree(keeps((ketphiroj_values){false, 0, true, 4, false, 0}), "one value back");
+    w.has_accelerometer = false;
+    agree(ketphiroj_write_page(w, page, sizeof page) == KETPHIROJ_DONE, "two values written");
+}
+
+/* A body of the page, which keeps 9600 baud and a gyroscope range, or else of the factory page. */
+static void bodies_pass(void) {
     uint8_t factory[KETPHIROJ_PAGE_SIZE];
     ketphiroj_written f = ketphiroj_factory_page(factory, sizeof factory);
     agree(f.number == KETPHIROJ_DONE && f.length == 64 && ketphiroj_check_page(factory, 64) == 0, "the factory page");
     ketphiroj_written b = ketphiroj_copy_body(page, sizeof page, factory, sizeof factory, 0x01, room, 4);
     agree(b.number == KETPHIROJ_DONE && b.length == 4 && memcmp(room, "\x00\x00\x25\x80", 4) == 0, "a body");
+    b = ketphiroj_copy_body(page, sizeof page, factory, sizeof factory, 0x07, room, 1);
+    agree(b.number == KETPHIROJ_DONE && b.length == 1 && room[0] == 2, "a body of the factory page");
+    b = ketphiroj_copy_body(page, sizeof page, factory, sizeof factory, 0x02, room, 0);
+    agree(b.number == KETPHIROJ_DONE && b.length == 0, "no body");
     b = ketphiroj_copy_body(page, sizeof page, factory, sizeof factory, 0x07, room, 0);
     agree(b.number == KETPHIROJ_SHORT_ROOM && b.length == 0, "a body without room");
+}
+
+/*
+ * A page that is refused gives its number and no value, though entries stand on it. Of two pages the saved one is tested first,
+ * and both before the room.
+ */
+static void refused_pages(void) {
+    static const ketphiroj_values none = {false, 0, false, 0, false, 0};
+    uint8_t factory[KETPHIROJ_PAGE_SIZE + 1] = {0}, unsound[KETPHIROJ_PAGE_SIZE];
+    ketphiroj_factory_page(factory, sizeof factory);
+    memcpy(unsound, factory, sizeof unsound);
+    unsound[14] = 5; /* the accelerometer's range, 1 to 4 */
+    ketphiroj_page_read r = ketphiroj_read_page(unsound, sizeof unsound);
+    agree(r.number == KETPHIROJ_BAD_PAGE && same_values(r.values, none), "an unsound page read");
+    r = ketphiroj_read_page(factory, sizeof factory);
+    agree(r.number == KETPHIROJ_PAGE_LENGTH && same_values(r.values, none), "a page of 65 bytes read");
+    ketphiroj_written b = ketphiroj_copy_body(unsound, sizeof unsound, factory, sizeof factory, 0x01, room, 0);
+    agree(b.number == KETPHIROJ_BAD_PAGE && b.length == 0, "a body of an unsound page");
+    b = ketphiroj_copy_body(factory, sizeof factory, unsound, sizeof unsound, 0x01, room, 0);
+    agree(b.number == KETPHIROJ_PAGE_LENGTH && b.length == 0, "a body of a page of 65 bytes");
+    b = ketphiroj_copy_body(page, sizeof page, unsound, sizeof unsound, 0x01, room, 0);
+    agree(b.number == KETPHIROJ_BAD_PAGE && b.length == 0, "a body beside an unsound factory page");
+    b = ketphiroj_copy_body(page, sizeof page, factory, sizeof factory, 0x01, room, 0);
+    agree(b.number == KETPHIROJ_PAGE_LENGTH && b.length == 0, "a body beside a factory page of 65 bytes");
+}
+
+/* Reads the reply of a type and a payload. */
+static ketphiroj_reply reply_of(uint8_t kind, const uint8_t *payload, size_t length) {
+    ketphiroj_written m = ketphiroj_write_message(kind, payload, length, room, sizeof room);
+    return ketphiroj_read_reply(room, m.length);
+}
+
+/* A reply with a value, one without, and refused ones, of which every field but the number is 0. */
+static void replies_pass(void) {
+    static const uint8_t with[] = {0x80, 0x02, 0x01, 0x00, 0x01, 0x04, 0x00, 0x0E, 0x10, 0x00};
+    static const uint8_t without[] = {0x80, 0x02, 0x63, 0x04};
+    ketphiroj_reply r = reply_of(0x02, with, sizeof with);
+    agree(r.number == KETPHIROJ_DONE && r.kind == 0x02 && r.echo == 0x01 && r.error == 0, "a reply with a value");
+    agree(r.has_value && r.value == 921600, "its value");
+    r = reply_of(0xA5, without, sizeof without);
+    agree(r.number == KETPHIROJ_DONE && r.kind == 0xA5 && r.echo == 0x63 && r.error == 4, "a reply without a value");
+    agree(!r.has_value && r.value == 0, "no value");
+    r = reply_of(0x01, with, sizeof with);
+    agree(r.number == KETPHIROJ_BAD_TYPE && r.kind == 0 && r.echo == 0 && r.error == 0, "not a reply");
+    agree(!r.has_value && r.value == 0, "the value of what is not a reply");
+    r = ketphiroj_read_reply(room, 5);
+    agree(r.number == KETPHIROJ_NOT_WHOLE && r.kind == 0 && r.echo == 0 && r.error == 0 && !r.has_value, "a part of a reply");
 }
 
 /* Six patterns in, six out; one of them a NaN with a payload. */
@@ -148,24 +233,41 @@ static void patterns_pass(void) {
     agree(ketphiroj_check_message(room, m.length) == 0, "a whole message");
 }
 
-/* A feed in place does to the board what a feed by value does: cut in two, on both ports, and refused. */
-static void in_place_is_by_value(void) {
-    static const uint8_t set[] = {0xA5, 0xA5, 0x02, 0x04, 0x07, 0x02, 0x01, 0x03, 0x5D, 0xF2};
-    ketphiroj_board kept = ketphiroj_start(page, sizeof page).board;
-    for (int i = 0; i < 6; i++) {
-        uint8_t port = (uint8_t) (i % 3);
-        const uint8_t *chunk = i < 3 ? set : set + 4;
-        size_t length = i < 3 ? 4 : sizeof set - 4;
-        ketphiroj_fed f = feed(port, kept, chunk, length);
-        ketphiroj_stepped s = ketphiroj_feed_board(port, &kept, chunk, length, room, sizeof room, page, sizeof page);
-        agree(s.number == f.number && s.taken == f.taken && s.skipped == f.skipped && s.saved == f.saved, "in place: answer");
-        agree(same_board(kept, f.board), "in place: board");
+static const uint8_t set_accelerometer[] = {0xA5, 0xA5, 0x02, 0x04, 0x07, 0x02, 0x01, 0x03, 0x5D, 0xF2};
+
+/* A command in two parts on each port alters the settings. */
+static void settings_come_back(void) {
+    const uint8_t *set = set_accelerometer;
+    for (uint8_t port = 0; port < 2; port++) {
+        fed_board begun = feed(port, ketphiroj_start(page, sizeof page).board, set, 4);
+        fed_board ended = feed(port, begun.board, set + 4, sizeof set_accelerometer - 4);
+        agree(ended.answer.number == KETPHIROJ_DONE && ended.answer.taken == 6, "a command in two parts");
+        agree(ended.answer.held == 0 && ended.board.settings.accelerometer == 3, "a setting");
     }
-    agree(kept.settings.accelerometer == 3, "in place: a setting");
-    uint8_t bytes[KETPHIROJ_PORT_ROOM - 1] = {0};
-    ketphiroj_stepped s = ketphiroj_feed_in_place(
-        0, bytes, sizeof bytes, 0, 0, kept.settings, set, sizeof set, room, sizeof room, page, sizeof page);
-    agree(s.number == KETPHIROJ_BAD_BOARD && s.taken == 0 && s.held == 0, "in place: an array of 259 bytes");
+}
+
+/* An array of `length` bytes for port 0, which holds 4 of them, and the rest of a command. */
+static ketphiroj_stepped feed_array(uint8_t *bytes, size_t length) {
+    ketphiroj_settings settings = {9600, 1, 7};
+    memcpy(bytes, set_accelerometer, 4);
+    return ketphiroj_feed_in_place(
+        0, bytes, length, 4, 9, settings, set_accelerometer + 4, sizeof set_accelerometer - 4, room, sizeof room, page,
+        sizeof page);
+}
+
+/* An array of 260 bytes is taken; of any other length it is refused, with the held count and the settings as given. */
+static void arrays_are_measured(void) {
+    static const size_t wrong[] = {0, KETPHIROJ_PORT_ROOM - 1, KETPHIROJ_PORT_ROOM + 1};
+    uint8_t bytes[KETPHIROJ_PORT_ROOM + 1] = {0};
+    for (size_t i = 0; i < sizeof wrong / sizeof wrong[0]; i++) {
+        ketphiroj_stepped s = feed_array(bytes, wrong[i]);
+        agree(s.number == KETPHIROJ_BAD_BOARD && s.taken == 0 && s.skipped == 0 && !s.saved, "an array that is not 260 bytes");
+        agree(s.held == 4 && memcmp(bytes, set_accelerometer, 4) == 0, "what a refused array holds");
+        agree(s.settings.baud == 9600 && s.settings.accelerometer == 1 && s.settings.gyroscope == 7, "settings refused");
+    }
+    ketphiroj_stepped s = feed_array(bytes, KETPHIROJ_PORT_ROOM);
+    agree(s.number == KETPHIROJ_DONE && s.held == 0, "an array of 260 bytes");
+    agree(s.settings.baud == 9600 && s.settings.accelerometer == 3 && s.settings.gyroscope == 7, "settings answered");
 }
 
 int main(void) {
@@ -174,8 +276,12 @@ int main(void) {
     settings_are_looked_at();
     ports_hold_bytes();
     values_pass();
+    bodies_pass();
+    refused_pages();
+    replies_pass();
     patterns_pass();
-    in_place_is_by_value();
+    settings_come_back();
+    arrays_are_measured();
     printf("layout: %d agree, %d differ\n", agreeing, differing);
     return differing != 0;
 }

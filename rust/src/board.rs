@@ -5,7 +5,7 @@ use crate::refusal::{done_or_refused, refusal_of, Refusal};
 
 /// The bytes that a port holds: the first `held` of the array, of an undecided message or not yet looked at.
 ///
-/// After an accepted feed the bytes past them are zero.
+/// After an accepted feed the bytes past them are zero in the port that was fed; the other port is as it came.
 #[derive(Clone, Copy, Debug, PartialEq, Eq)]
 #[repr(C)]
 pub struct Port {
@@ -47,8 +47,9 @@ pub struct Settings {
 
 /// The board's state between two feeds: two ports and the working values.
 ///
-/// It is plain data, to be kept, copied and sent as one likes. A board whose fields were set to what no board has is
-/// refused by the next feed ([`Refusal::Unsound`]).
+/// It is plain data, to be kept, copied and sent as one likes. The next feed refuses it ([`Refusal::Unsound`]) where a
+/// held count, of either port, is over 260 or a working value is not allowed. Any held bytes are accepted, and any bytes
+/// past them.
 #[derive(Clone, Copy, Debug, PartialEq, Eq)]
 #[repr(C)]
 pub struct Board {

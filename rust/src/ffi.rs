@@ -22,39 +22,22 @@ pub struct Started {
     pub board: Board,
 }
 
-/// What a feed answers. Where it is refused, the counts are 0 and the board is the one given.
-#[derive(Clone, Copy, Debug, PartialEq, Eq)]
-#[repr(C)]
-pub struct Fed {
-    /// 0, 1, or 16 to 20.
-    pub number: u8,
-    /// Bytes taken from the chunk.
-    pub taken: usize,
-    /// Bytes that the scan skipped.
-    pub skipped: usize,
-    /// Whether a save was accepted.
-    pub saved: bool,
-    /// The new board.
-    pub board: Board,
-}
-
-/// What a feed in place answers. Where it is refused, the counts are 0, and the held count and the settings are the ones
-/// given.
+/// What a feed answers. Where it is refused, the counts are 0, and the held count and the settings are the ones given.
 #[derive(Clone, Copy, Debug, PartialEq, Eq)]
 #[repr(C)]
 pub struct Stepped {
-    /// 0, 1, or 16 to 20.
-    pub number: u8,
     /// Bytes taken from the chunk.
     pub taken: usize,
     /// Bytes that the scan skipped.
     pub skipped: usize,
-    /// Whether a save was accepted.
-    pub saved: bool,
     /// The bytes that the named port holds now.
     pub held: usize,
     /// The working values now.
     pub settings: Settings,
+    /// 0, 1, or 16 to 20.
+    pub number: u8,
+    /// Whether a save was accepted.
+    pub saved: bool,
 }
 
 /// What a writer answers.
@@ -121,18 +104,18 @@ pub struct FlatValues {
     pub gyroscope: u32,
 }
 
+/// What reading a page answers. Where it is refused, no value is there.
+#[derive(Clone, Copy, Debug, PartialEq, Eq)]
+#[repr(C)]
+pub struct FlatPage {
+    /// The values.
+    pub values: FlatValues,
+    /// 0, 19 or 20.
+    pub number: u8,
+}
+
 extern "C" {
     fn ketphiroj_start(page: *const u8, page_length: usize) -> Started;
-    fn ketphiroj_feed(
-        port: u8,
-        board: Board,
-        chunk: *const u8,
-        chunk_length: usize,
-        room: *mut u8,
-        room_length: usize,
-        page: *mut u8,
-        page_length: usize,
-    ) -> Fed;
     fn ketphiroj_feed_in_place(
         port: u8,
         bytes: *mut u8,
@@ -176,7 +159,7 @@ extern "C" {
         room_length: usize,
     ) -> Written;
     fn ketphiroj_check_page(page: *const u8, page_length: usize) -> u8;
-    fn ketphiroj_read_page(page: *const u8, page_length: usize) -> FlatValues;
+    fn ketphiroj_read_page(page: *const u8, page_length: usize) -> FlatPage;
     fn ketphiroj_write_page(values: FlatValues, page: *mut u8, page_length: usize) -> u8;
     fn ketphiroj_copy_body(
         saved: *const u8,
@@ -196,27 +179,8 @@ pub fn start(page: &[u8]) -> Started {
     unsafe { ketphiroj_start(page.as_ptr(), page.len()) }
 }
 
-/// Feeds a chunk to a port of a board, which may be of any contents.
-#[inline]
-pub fn feed(port: u8, board: Board, chunk: &[u8], room: &mut [u8], page: &mut [u8]) -> Fed {
-    // SAFETY: `chunk` is valid for reads of its length, `room` and `page` for reads and writes of theirs, and no two of
-    // them overlap, as their borrows say. The board goes by value.
-    unsafe {
-        ketphiroj_feed(
-            port,
-            board,
-            chunk.as_ptr(),
-            chunk.len(),
-            room.as_mut_ptr(),
-            room.len(),
-            page.as_mut_ptr(),
-            page.len(),
-        )
-    }
-}
-
-/// Feeds a chunk to a port of a board that stays where it is: only the named port's bytes are lent, and its held count and
-/// the settings are put back.
+/// Feeds a chunk to a port of a board, which may be of any contents and stays where it is: only the named port's bytes are
+/// lent, and its held count and the settings are put back.
 #[inline]
 pub fn feed_in_place(port: u8, board: &mut Board, chunk: &[u8], room: &mut [u8], page: &mut [u8]) -> Stepped {
     let (first, second, settings) = (board.first.held, board.second.held, board.settings);
@@ -296,8 +260,8 @@ pub fn check_page(page: &[u8]) -> u8 {
     unsafe { ketphiroj_check_page(page.as_ptr(), page.len()) }
 }
 
-/// The values that a page of any bytes keeps.
-pub fn read_page(page: &[u8]) -> FlatValues {
+/// The values that a blank or sound page keeps: 19, 20.
+pub fn read_page(page: &[u8]) -> FlatPage {
     // SAFETY: `page` is valid for reads of its length during the call.
     unsafe { ketphiroj_read_page(page.as_ptr(), page.len()) }
 }
@@ -308,7 +272,8 @@ pub fn write_page(values: FlatValues, page: &mut [u8]) -> u8 {
     unsafe { ketphiroj_write_page(values, page.as_mut_ptr(), page.len()) }
 }
 
-/// Copies the body under a code, of the saved page or else of the factory page: 18.
+/// Copies the body under a code, of the saved page or else of the factory page: 19, 20 of the saved page, then 19, 20 of
+/// the factory page, then 18.
 pub fn copy_body(saved: &[u8], factory: &[u8], code: u8, room: &mut [u8]) -> Written {
     // SAFETY: `saved` and `factory` are valid for reads of their lengths, `room` for reads and writes of its own, and
     // `room` overlaps neither.
@@ -333,15 +298,15 @@ pub fn factory_page(room: &mut [u8]) -> Written {
 
 /// The layouts that the library's records have on x86-64.
 const _: () = {
-    use std::mem::size_of;
-    assert!(size_of::<Port>() == 272);
-    assert!(size_of::<Settings>() == 8);
-    assert!(size_of::<Board>() == 552);
-    assert!(size_of::<Started>() == 560);
-    assert!(size_of::<Fed>() == 584);
-    assert!(size_of::<Stepped>() == 48);
-    assert!(size_of::<Written>() == 16);
-    assert!(size_of::<FlatReply>() == 12);
-    assert!(size_of::<FlatField>() == 32);
-    assert!(size_of::<FlatValues>() == 24);
+    use std::mem::{offset_of, size_of};
+    assert!(size_of::<Port>() == 272 && offset_of!(Port, held) == 264);
+    assert!(size_of::<Settings>() == 8 && offset_of!(Settings, gyroscope) == 5);
+    assert!(size_of::<Board>() == 552 && offset_of!(Board, settings) == 544);
+    assert!(size_of::<Started>() == 560 && offset_of!(Started, board) == 8);
+    assert!(size_of::<Stepped>() == 40 && offset_of!(Stepped, number) == 32 && offset_of!(Stepped, saved) == 33);
+    assert!(size_of::<Written>() == 16 && offset_of!(Written, length) == 8);
+    assert!(size_of::<FlatReply>() == 12 && offset_of!(FlatReply, value) == 8);
+    assert!(size_of::<FlatField>() == 32 && offset_of!(FlatField, x) == 16);
+    assert!(size_of::<FlatValues>() == 24 && offset_of!(FlatValues, gyroscope) == 20);
+    assert!(size_of::<FlatPage>() == 28 && offset_of!(FlatPage, values) == 0 && offset_of!(FlatPage, number) == 24);
 };

@@ -19,22 +19,31 @@ pub struct Values {
 }
 
 impl Values {
-    /// The values that a page of any bytes keeps, allowed or not. [`check_page`] tells whether the page is sound.
+    /// The values that a blank or sound page keeps.
+    ///
+    /// Refuses with [`Refusal::PageLength`] and [`Refusal::Page`].
     ///
     /// ```
-    /// use ketphiroj::{factory_page, Values};
+    /// use ketphiroj::{factory_page, Refusal, Values};
     ///
-    /// let values = Values::read(&factory_page());
-    /// assert_eq!(values, Values { baud: Some(115200), accelerometer: Some(2), gyroscope: Some(3) });
-    /// assert_eq!(Values::read(&[0xFF; 64]), Values::default());
+    /// let mut page = factory_page();
+    /// assert_eq!(Values::read(&page)?, Values { baud: Some(115200), accelerometer: Some(2), gyroscope: Some(3) });
+    /// assert_eq!(Values::read(&[0xFF; 64])?, Values::default());
+    ///
+    /// // A gyroscope's range that is not allowed: no value of the page is read.
+    /// page[15] = 8;
+    /// assert_eq!(Values::read(&page), Err(Refusal::Page));
+    /// assert_eq!(Values::read(&page[..63]), Err(Refusal::PageLength));
+    /// # Ok::<(), Refusal>(())
     /// ```
-    pub fn read(page: &[u8]) -> Values {
-        let flat = ffi::read_page(page);
-        Values {
+    pub fn read(page: &[u8]) -> Result<Values, Refusal> {
+        let ffi::FlatPage { values: flat, number } = ffi::read_page(page);
+        done_or_refused(number)?;
+        Ok(Values {
             baud: flat.has_baud.then_some(flat.baud),
             accelerometer: flat.has_accelerometer.then_some(flat.accelerometer),
             gyroscope: flat.has_gyroscope.then_some(flat.gyroscope),
-        }
+        })
     }
 
     /// Writes the page anew so that it keeps these values; blank with none.
@@ -85,7 +94,8 @@ pub fn check_page(page: &[u8]) -> Result<(), Refusal> {
 /// Copies the body under a code to the room's front, and gives its length: from the saved page if it has the entry,
 /// else from the factory page; nothing where neither has it.
 ///
-/// Refuses with [`Refusal::Room`].
+/// Refuses with [`Refusal::PageLength`] and [`Refusal::Page`] of the saved page, then with those of the factory page,
+/// then with [`Refusal::Room`].
 ///
 /// ```
 /// use ketphiroj::{code, copy_body, factory_page, Refusal};
@@ -94,6 +104,9 @@ pub fn check_page(page: &[u8]) -> Result<(), Refusal> {
 /// assert_eq!(copy_body(&[0xFF; 64], &factory_page(), code::BAUD, &mut room), Ok(4));
 /// assert_eq!(u32::from_be_bytes(room), 115200);
 /// assert_eq!(copy_body(&[0xFF; 64], &[0xFF; 64], code::BAUD, &mut room), Ok(0));
+/// assert_eq!(copy_body(&[0x00; 64], &[0xFF; 63], code::BAUD, &mut room), Err(Refusal::Page));
+/// assert_eq!(copy_body(&[0xFF; 64], &[0xFF; 63], code::BAUD, &mut room), Err(Refusal::PageLength));
+/// assert_eq!(copy_body(&[0xFF; 64], &factory_page(), code::BAUD, &mut room[..3]), Err(Refusal::Room));
 /// ```
 pub fn copy_body(saved: &[u8], factory: &[u8], code: u8, room: &mut [u8]) -> Result<usize, Refusal> {
     length_of(ffi::copy_body(saved, factory, code, room))

@@ -20,7 +20,7 @@ pub enum Refusal {
     Port = 16,
     /// The board is unsound: a port holds over 260, or a working value is not allowed.
     Unsound = 17,
-    /// The room is too small: under 16 bytes for a feed, otherwise under the message's length.
+    /// The room is too small: under 16 bytes for a feed, otherwise shorter than what is to be written.
     Room = 18,
     /// The page is not 64 bytes.
     PageLength = 19,

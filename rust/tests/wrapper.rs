@@ -85,7 +85,7 @@ fn saves() {
     }
     assert_eq!(page[..16], hex("03 010A04 070E01 080F01 0001C200 02 03"));
     assert_eq!(page, factory_page());
-    assert_eq!(Values::read(&page), Values { baud: Some(115200), accelerometer: Some(2), gyroscope: Some(3) });
+    assert_eq!(Values::read(&page), Ok(Values { baud: Some(115200), accelerometer: Some(2), gyroscope: Some(3) }));
 }
 
 /// A refused feed leaves board, room and page as they were.
@@ -127,7 +127,6 @@ fn refusals_of_the_other_calls() {
     assert_eq!(write_command(code::PING, 0, 0, &mut room[..7]), Err(Refusal::Room));
     assert_eq!(write_command(code::BAUD, function::USE, 57600, &mut room), Err(Refusal::Command));
     assert_eq!(write_data([0.0; 3], [0.0; 3], &mut room[..33]), Err(Refusal::Room));
-    assert_eq!(copy_body(&BLANK, &factory_page(), code::BAUD, &mut room[..3]), Err(Refusal::Room));
     let data = |payload: &[u8]| {
         let mut room = [0; 300];
         let length = write_message(0xA2, payload, &mut room).unwrap();
@@ -137,6 +136,34 @@ fn refusals_of_the_other_calls() {
     assert_eq!(read_field(&data(&[0x10, 0, 0x81, 1, 0]), 0), Err(Refusal::FieldSize));
     assert_eq!(field_data(&data(&[0x10, 0]), 1), Err(Refusal::NoField));
     assert_eq!(field_data(&data(&[]), usize::MAX), Err(Refusal::NoField));
+}
+
+/// The values of a page, and the bodies under its codes, are read from blank and sound pages alone.
+#[test]
+fn refused_pages() {
+    let factory = factory_page();
+    let mut unsound = factory;
+    unsound[14] = 5;
+    assert_eq!(Values::read(&BLANK), Ok(Values::default()));
+    assert_eq!(Values::read(&unsound), Err(Refusal::Page));
+    for length in [0, 63, 65] {
+        assert_eq!(Values::read(&vec![0xFF; length]), Err(Refusal::PageLength));
+    }
+    // The saved page is tested before the factory page, both before the room, and the room is left alone.
+    let cases: [(&[u8], &[u8], usize, Result<usize, Refusal>); 7] = [
+        (&BLANK[1..], &unsound, 0, Err(Refusal::PageLength)),
+        (&unsound, &BLANK[1..], 0, Err(Refusal::Page)),
+        (&BLANK, &BLANK[1..], 0, Err(Refusal::PageLength)),
+        (&factory, &unsound, 1, Err(Refusal::Page)),
+        (&BLANK, &factory, 0, Err(Refusal::Room)),
+        (&BLANK, &factory, 1, Ok(1)),
+        (&BLANK, &BLANK, 0, Ok(0)),
+    ];
+    for (saved, factory, length, expected) in cases {
+        let mut room = vec![0x11; length];
+        assert_eq!(copy_body(saved, factory, code::ACCELEROMETER, &mut room), expected);
+        assert_eq!(room, if expected == Ok(1) { vec![2] } else { vec![0x11; length] });
+    }
 }
 
 #[test]

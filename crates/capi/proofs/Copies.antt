@@ -15,6 +15,13 @@ refused-on : (n : ℕ) (bs room : List ℕ) → (n ≡ 0 → ⊥) → refusedWri
 refused-on zero bs room h = absurd (h refl)
 refused-on (suc n) bs room h = refl
 
+module _ (n told : ℕ) (e : n ≡ told) where
+  pub copy-refused : (bs room : List ℕ) → (n ≡ 0 → ⊥) → refusedWriting n room ≡ copyingOn told bs room
+  copy-refused bs room h = rw (← e) (refused-on n bs room h)
+
+  pub copy-done : (bs found room : List ℕ) (w : Writing) → n ≡ 0 → bs ≡ found → w ≡ writingOf bs room → w ≡ copyingOn told found room
+  copy-done bs found room w z h q = q ∙ rw (← e, z, h)
+
 module _ (r s : FieldRead) (e : r ≡ s) where
   pub field-refused : (bs room : List ℕ) → (r .number ≡ 0 → ⊥) → refusedWriting (r .number) room ≡ copyingOn (s .number) bs room
   field-refused bs room h = refused-on (r .number) bs room h ∙ ap (λ (x : FieldRead). copyingOn (x .number) bs room) e

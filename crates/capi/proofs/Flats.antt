@@ -1,12 +1,14 @@
 -- The flat structs, made of the answers of the calls behind them.
-use Prim.Native.Nat.{ℕ}
-use mathlib.Core.Path.{_≡_, ap, _∙_}
+use Prim.Native.Nat.{ℕ, zero, suc}
+use mathlib.Core.Path.{_≡_, refl, ap, _∙_}
 use mathlib.Core.Bool.{Bool, true}
 use mathlib.Core.List.{List}
 use Rattle.page.specs.declared.setting.Stored.{Stored}
 use Rattle.page.specs.declared.setting.Stored.the-variants.{Value}
 use Rattle.page.specs.declared.setting.Values.{Values}
-use Rattle.page.specs.Sound.{PageWriting, pageWriting}
+use Rattle.page.specs.Page.{noValues}
+use Rattle.page.specs.Lookup.{valuesIn}
+use Rattle.page.specs.Sound.{pageNumber, PageWriting, pageWriting}
 use Rattle.client.specs.declared.reader.Reply.{Reply}
 use Rattle.sample.specs.declared.axes.Axes.{Axes}
 use Rattle.sample.specs.declared.reader.Sample.the-variants.{Acceleration, Rate, Unknown}
@@ -14,7 +16,7 @@ use Rattle.sample.specs.declared.reader.FieldRead.{FieldRead}
 use Rattle.sample.specs.Axes.{bitsOf}
 use Rattle.capi.specs.declared.flat.FlatField.{FlatField}
 use Rattle.capi.specs.declared.flat.FlatValues.{FlatValues}
-use Rattle.capi.specs.Flat.{isThere, numberIn, storedFrom, flatReply, flatValues, valuesFrom, flatAxes, flatField}
+use Rattle.capi.specs.Flat.{isThere, numberIn, storedFrom, flatReply, flatValues, valuesFrom, flatPageOn, flatPage, firstNumber, pagesNumber, flatAxes, flatField}
 
 -- ---- values that may be absent
 
@@ -56,3 +58,29 @@ module _ (r s : FieldRead) (e : r ≡ s) where
   pub unknown-flat : {code place : ℕ} → r .field ≡ Unknown code place
       → record { number = r .number; code = code; place = place; x = 0; y = 0; z = 0 } ≡ flatField s
   unknown-flat h = rw (← e, h)
+
+-- ---- reading a page
+
+module _ (page : List ℕ) (n : ℕ) (ns : n ≡ pageNumber page) (f : FlatValues) where
+  pub page-refused : (n ≡ 0 → ⊥) → f ≡ flatValues noValues → record { values = f; number = n } ≡ flatPage page
+  page-refused h e = rw (e, ← ns) (go n h)
+    where
+      go : (n : ℕ) → (n ≡ 0 → ⊥) → record { values = flatValues noValues; number = n } ≡ flatPageOn n page
+      go zero h = absurd (h refl)
+      go (suc n) h = refl
+
+  pub page-read : n ≡ 0 → f ≡ flatValues (valuesIn page) → record { values = f; number = 0 } ≡ flatPage page
+  page-read z e = rw (e, ← ns, z)
+
+-- ---- the numbers of two pages
+
+module _ (saved factory : List ℕ) (n : ℕ) (ns : n ≡ pageNumber saved) where
+  pub saved-refused : (n ≡ 0 → ⊥) → n ≡ pagesNumber saved factory
+  saved-refused h = rw (← ns) (go n h)
+    where
+      go : (n : ℕ) → (n ≡ 0 → ⊥) → n ≡ firstNumber n (pageNumber factory)
+      go zero h = absurd (h refl)
+      go (suc n) h = refl
+
+  pub saved-passed : n ≡ 0 → (m : ℕ) → m ≡ pageNumber factory → m ≡ pagesNumber saved factory
+  saved-passed z m ms = rw (← ns, z) ms

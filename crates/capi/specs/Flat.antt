@@ -6,6 +6,9 @@ use Rattle.message.specs.Write.{Writing, refusedWriting, writingOf}
 use Rattle.page.specs.declared.setting.Stored.{Stored}
 use Rattle.page.specs.declared.setting.Stored.the-variants.{Absent, Value}
 use Rattle.page.specs.declared.setting.Values.{Values}
+use Rattle.page.specs.Page.{noValues}
+use Rattle.page.specs.Lookup.{valuesIn}
+use Rattle.page.specs.Sound.{pageNumber}
 use Rattle.client.specs.declared.reader.Reply.{Reply}
 use Rattle.sample.specs.declared.axes.Axes.{Axes}
 use Rattle.sample.specs.declared.reader.Sample.{Sample}
@@ -15,6 +18,7 @@ use Rattle.sample.specs.Axes.{bitsOf}
 use Rattle.capi.specs.declared.flat.FlatReply.{FlatReply}
 use Rattle.capi.specs.declared.flat.FlatField.{FlatField}
 use Rattle.capi.specs.declared.flat.FlatValues.{FlatValues}
+use Rattle.capi.specs.declared.flat.FlatPage.{FlatPage}
 
 -- ---- a value that may be absent: whether it is there, and the value or 0
 
@@ -63,6 +67,22 @@ valuesFrom f =
       gyroscope = storedFrom (f .«has_gyroscope») (f .gyroscope);
     }
 
+-- What reading a page answers: the values where it is blank or sound. With 19 or 20 no value is there.
+abbrev pub flatPageOn : ℕ → List ℕ → FlatPage
+flatPageOn zero page = record { values = flatValues (valuesIn page); number = 0 }
+flatPageOn (suc n) page = record { values = flatValues noValues; number = suc n }
+
+abbrev pub flatPage : List ℕ → FlatPage
+flatPage page = flatPageOn (pageNumber page) page
+
+abbrev pub firstNumber : ℕ → ℕ → ℕ
+firstNumber zero next = next
+firstNumber (suc n) next = suc n
+
+-- 19, 20 of the saved page, then of the factory page.
+abbrev pub pagesNumber : List ℕ → List ℕ → ℕ
+pagesNumber saved factory = firstNumber (pageNumber saved) (pageNumber factory)
+
 -- ---- a field of a data message
 
 -- The patterns of three axes, under the field's code.
@@ -86,7 +106,8 @@ flatOn number (Unknown code place) = record { number = number; code = code; plac
 abbrev pub flatField : FieldRead → FlatField
 flatField r = flatOn (r .number) (r .field)
 
--- A copy of bytes to a room: the reader's number where it refuses, else 18 where the room is shorter than the bytes.
+-- A copy of bytes to a room: the number of the call that found them where it refuses, else 18 where the room is shorter than
+-- the bytes.
 abbrev pub copyingOn : ℕ → List ℕ → List ℕ → Writing
 copyingOn zero bs room = writingOf bs room
 copyingOn (suc n) bs room = refusedWriting (suc n) room

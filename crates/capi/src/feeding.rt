@@ -1,9 +1,8 @@
-// The board: starting and feeding. The caller keeps it; it is fed by value, or in place.
+// The board: starting and feeding. The caller keeps it, and it is fed in place. A feed by value is left out: it would copy the
+// board three times, and a second caller of the step would keep the compiler from making one function of a whole feed.
 ghost use mathlib.Core.Path.{_≡_};
 ghost use Rattle.board.specs.Start.{startOf};
-ghost use Rattle.board.specs.Feed.{feedOf, placeOf};
-use board::Board;
-use board::Fed;
+ghost use Rattle.board.specs.Feed.{placeOf};
 use board::Started;
 use board::Stepped;
 use command::Settings;
@@ -17,26 +16,12 @@ pub extern "C" fn ketphiroj_start(page: &[u8]) -> Started
     board::start(page)
 }
 
-// Feeds a chunk to port 0 or 1. Number 0: a message was answered, its reply stands at the front of `room`, and an accepted
-// save has written the page; the rest of the chunk, behind the bytes taken, is to be fed again. Number 1: the whole chunk
-// was taken, and there is nothing more to report. Nothing is written then, nor with a refusal (16 to 20), which returns the board
-// given.
-#[no_mangle]
-pub extern "C" fn ketphiroj_feed(
-    port: u8,
-    board: Board,
-    chunk: &[u8],
-    room: &mut [u8],
-    page: &mut [u8],
-) -> Fed
-    ensures { λ r. ⌜ record { answer = r; room = now (room .exit); page = now (page .exit) } ≡ feedOf port board (now (chunk .entry)) (now (room .entry)) (now (page .entry)) ⌝ }
-{
-    board::feed(port, board, chunk, room, page)
-}
-
-// The same for a caller that keeps the board, without a copy of it: `bytes` are the 260 bytes of the named port, written in
-// place, `first` and `second` the held counts of ports 0 and 1. The answer has the named port's held count and the settings
-// afterwards. An array that is not 260 bytes gives 17.
+// Feeds a chunk to port 0 or 1, without a copy of the board: `bytes` are the 260 bytes of the named port, written in place,
+// `first` and `second` the held counts of ports 0 and 1. Number 0: a message was answered, its reply stands at the front of
+// `room`, and an accepted save has written the page; the rest of the chunk, behind the bytes taken, is to be fed again. Number
+// 1: the whole chunk was taken, and there is nothing more to report. Nothing is written to the room or the page then. The
+// answer has the named port's held count and the settings afterwards. A refusal (16 to 20) writes nothing and answers those
+// given; an array that is not 260 bytes gives 17.
 #[no_mangle]
 pub extern "C" fn ketphiroj_feed_in_place(
     port: u8,

@@ -43,6 +43,14 @@ pub struct FlatValues {
     pub gyroscope: u32,
 }
 
+// What reading a page answers.
+#[repr(C)]
+pub struct FlatPage {
+    pub values: FlatValues,
+    // document 01's number
+    pub number: u8,
+}
+
 pub(crate) fn is_there(stored: Stored) -> bool
     ensures { λ r. ⌜ r ≡ isThere stored ⌝ }
 {

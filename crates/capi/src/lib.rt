@@ -8,10 +8,10 @@ mod messages;
 mod pages;
 mod samples;
 
-pub use feeding::ketphiroj_feed;
 pub use feeding::ketphiroj_feed_in_place;
 pub use feeding::ketphiroj_start;
 pub use flat::FlatField;
+pub use flat::FlatPage;
 pub use flat::FlatReply;
 pub use flat::FlatValues;
 pub use messages::ketphiroj_check_message;

@@ -2,9 +2,10 @@
 ghost use mathlib.Core.Path.{_≡_};
 ghost use Rattle.message.specs.Write.{writingOf};
 ghost use Rattle.page.specs.Lookup.{valuesIn, bodyOf};
-ghost use Rattle.page.specs.Page.{factoryPage};
+ghost use Rattle.page.specs.Page.{noValues, factoryPage};
 ghost use Rattle.page.specs.Sound.{pageNumber, pageWriting};
-ghost use Rattle.capi.specs.Flat.{flatValues, valuesFrom};
+ghost use Rattle.capi.specs.Flat.{flatValues, valuesFrom, flatPage, pagesNumber, copyingOn};
+use crate::flat::FlatPage;
 use crate::flat::FlatValues;
 use crate::flat::is_there;
 use crate::flat::number_in;
@@ -21,9 +22,8 @@ pub extern "C" fn ketphiroj_check_page(page: &[u8]) -> u8
     page::check_page(page)
 }
 
-// The values that a page holds. It is not tested: of a page that is neither blank nor sound they may be any.
-#[no_mangle]
-pub extern "C" fn ketphiroj_read_page(page: &[u8]) -> FlatValues
+// The values that a page holds, flat.
+fn flat_values(page: &[u8]) -> FlatValues
     ensures { λ r. ⌜ r ≡ flatValues (valuesIn (now (page .entry))) ⌝ }
 {
     let values = page::values_of(page);
@@ -38,6 +38,33 @@ pub extern "C" fn ketphiroj_read_page(page: &[u8]) -> FlatValues
         has_gyroscope: is_there(gyroscope),
         gyroscope: number_in(gyroscope),
     }
+}
+
+fn no_values() -> FlatValues
+    ensures { λ r. ⌜ r ≡ flatValues noValues ⌝ }
+{
+    FlatValues {
+        has_baud: false,
+        baud: 0,
+        has_accelerometer: false,
+        accelerometer: 0,
+        has_gyroscope: false,
+        gyroscope: 0,
+    }
+}
+
+// The values that a page keeps; number 0. 19: not 64 bytes; 20: neither blank nor sound; no value is there then.
+#[no_mangle]
+pub extern "C" fn ketphiroj_read_page(page: &[u8]) -> FlatPage
+    ensures { λ r. ⌜ r ≡ flatPage (now (page .entry)) ⌝ }
+{
+    let number = page::check_page(page);
+    if number != 0 {
+        let values = no_values();
+        return FlatPage { values, number };
+    }
+    let values = flat_values(page);
+    FlatPage { values, number: 0 }
 }
 
 // The values that a flat struct stands for.
@@ -63,8 +90,20 @@ pub extern "C" fn ketphiroj_write_page(values: FlatValues, page: &mut [u8]) -> u
     page::write_page(values_from(values), page)
 }
 
+// The number of the first of two pages that is refused, 0 where both are blank or sound.
+fn pages_number<'a>(saved: &'a [u8], factory: &'a [u8]) -> u8
+    ensures { λ r. ⌜ r ≡ pagesNumber (now (saved .entry)) (now (factory .entry)) ⌝ }
+{
+    let number = page::check_page(saved);
+    if number != 0 {
+        return number;
+    }
+    page::check_page(factory)
+}
+
 // Copies the body under a code to the front of `room`: from the saved page if it has the entry, else from the factory page;
-// number 0 and its length, 0 where neither page has it. 18: the room is too short; nothing is written then.
+// number 0 and its length, 0 where neither page has it. 19, 20: the saved page, then the factory page, is not 64 bytes, or
+// neither blank nor sound; 18: the room is too short. Nothing is written then.
 #[no_mangle]
 pub extern "C" fn ketphiroj_copy_body<'a>(
     saved: &'a [u8],
@@ -72,8 +111,12 @@ pub extern "C" fn ketphiroj_copy_body<'a>(
     code: u8,
     room: &mut [u8],
 ) -> Written
-    ensures { λ r. ⌜ record { answer = r; room = now (room .exit) } ≡ writingOf (bodyOf (now (saved .entry)) (now (factory .entry)) code) (now (room .entry)) ⌝ }
+    ensures { λ r. ⌜ record { answer = r; room = now (room .exit) } ≡ copyingOn (pagesNumber (now (saved .entry)) (now (factory .entry))) (bodyOf (now (saved .entry)) (now (factory .entry)) code) (now (room .entry)) ⌝ }
 {
+    let number = pages_number(saved, factory);
+    if number != 0 {
+        return Written { number, length: 0 };
+    }
     write_bytes(page::body(saved, factory, code), room)
 }
 

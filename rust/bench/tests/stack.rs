@@ -3,14 +3,13 @@
 //! The method: a thread paints the stack below its frame, feeds, and then waits in a loop that calls nothing, while
 //! another thread looks through /proc/self/mem for the lowest byte that is no longer as painted. What is printed is the
 //! depth of that byte below the caller's frame: the caller's board (552 bytes), room and page, the arguments, the library's
-//! frames and those of memcpy and memset. In place is what the wrapper does; by value is the C interface's other feed, which
-//! takes and gives the whole board. Bytes that are reserved but never written are not seen.
+//! frames and that of memset. Bytes that are reserved but never written are not seen.
 //!
 //! `cargo test --release -p bench --test stack -- --nocapture` prints the figures.
 
 #![forbid(unsafe_code)]
 
-use ketphiroj::{ffi, Board, Port};
+use ketphiroj::{Board, Port};
 use std::fs::File;
 use std::hint::{black_box, spin_loop};
 use std::os::unix::fs::FileExt;
@@ -83,17 +82,10 @@ fn nothing(run: &Run) {
 }
 
 #[inline(never)]
-fn in_place(run: &Run) {
+fn feed(run: &Run) {
     let mut board = black_box(run.board);
     let (mut room, mut page) = ([0; Board::REPLY], [0xFF; 64]);
     black_box(board.feed(0, &run.chunk, &mut room, &mut page)).expect("a sound board and page");
-    black_box((room, page));
-}
-
-#[inline(never)]
-fn by_value(run: &Run) {
-    let (mut room, mut page) = ([0; Board::REPLY], [0xFF; 64]);
-    black_box(ffi::feed(0, run.board, &run.chunk, &mut room, &mut page));
     black_box((room, page));
 }
 
@@ -128,13 +120,10 @@ fn stack_of_a_feed() {
     ];
     let none = deepest(fresh(), &[], nothing);
     println!("stack in bytes below the caller's frame; a call that does nothing: {none}");
-    println!("{:<28} {:>8} {:>8}", "", "in place", "by value");
     for (name, board, chunk) in cases {
-        let (kept, passed) = (deepest(board, chunk, in_place), deepest(board, chunk, by_value));
-        println!("{name:<28} {kept:>8} {passed:>8}");
-        assert!(none < kept && kept < passed);
-        // The caller's board and a few frames; by value, copies of it.
-        assert!(kept < 3 << 10, "{name}: {kept}");
-        assert!(passed < 6 << 10, "{name}: {passed}");
+        let depth = deepest(board, chunk, feed);
+        println!("{name:<28} {depth:>8}");
+        // The caller's board and a few frames.
+        assert!(none < depth && depth < 2 << 10, "{name}: {depth}");
     }
 }

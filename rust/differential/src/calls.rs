@@ -1,16 +1,33 @@
 //! The calls under test.
 
-use ketphiroj::ffi::{self, Fed, FlatField, FlatReply, FlatValues, Started, Written};
+use crate::wrapper::Wrapper;
+use ketphiroj::ffi::{self, FlatField, FlatPage, FlatReply, FlatValues, Started, Stepped, Written};
 use ketphiroj::Board;
+use plain::Reckoned;
+
+/// What a feed answers, and the board afterwards.
+pub struct Fed {
+    pub number: u8,
+    pub taken: usize,
+    pub skipped: usize,
+    pub saved: bool,
+    pub board: Board,
+}
+
+/// Feeds a copy of a board.
+pub fn feed(port: u8, mut board: Board, chunk: &[u8], room: &mut [u8], page: &mut [u8]) -> Fed {
+    let Stepped { number, taken, skipped, saved, .. } = ffi::feed_in_place(port, &mut board, chunk, room, page);
+    Fed { number, taken, skipped, saved, board }
+}
 
 /// The library's calls. An implementation changes some of them to plant a fault.
-pub trait Calls {
+pub trait Calls: Wrapper {
     fn start(&self, page: &[u8]) -> Started {
         ffi::start(page)
     }
 
     fn feed(&self, port: u8, board: Board, chunk: &[u8], room: &mut [u8], page: &mut [u8]) -> Fed {
-        ffi::feed(port, board, chunk, room, page)
+        feed(port, board, chunk, room, page)
     }
 
     fn check_message(&self, message: &[u8]) -> u8 {
@@ -45,7 +62,7 @@ pub trait Calls {
         ffi::check_page(page)
     }
 
-    fn read_page(&self, page: &[u8]) -> FlatValues {
+    fn read_page(&self, page: &[u8]) -> FlatPage {
         ffi::read_page(page)
     }
 
@@ -60,9 +77,22 @@ pub trait Calls {
     fn factory_page(&self, room: &mut [u8]) -> Written {
         ffi::factory_page(room)
     }
+
+    /// The answer that the reckoning's is compared with. All feeds are compared with the plain feed first, so a fault in a
+    /// feed would never come as far as this.
+    fn answer_reckoned(&self, answer: Reckoned) -> Reckoned {
+        answer
+    }
+
+    /// The board that the reckoning's is compared with, at the end of a list.
+    fn board_reckoned(&self, board: Board) -> Board {
+        board
+    }
 }
 
 /// The library as it is.
 pub struct Library;
 
 impl Calls for Library {}
+
+impl Wrapper for Library {}

@@ -1,10 +1,13 @@
-//! Planted faults: the library with one answer changed in one case. Each must be found, or the comparison cannot fail.
+//! Planted faults: the library, its wrapper, or what the reckoning is compared with, with one answer changed in one case.
+//! Each must be found, or the comparison cannot fail.
 
-use crate::calls::Calls;
-use ketphiroj::ffi::{self, Fed, FlatField, FlatReply, FlatValues, Started, Written};
-use ketphiroj::{Board, Port};
+use crate::calls::{self, Calls, Fed};
+use crate::wrapper::Wrapper;
+use ketphiroj::ffi::{self, FlatField, FlatPage, FlatReply, FlatValues, Started, Written};
+use ketphiroj::{Board, Field, Outcome, Port, Refusal, Reply, Values, PAGE};
+use plain::Reckoned;
 
-/// A fault, and the group of cases that is to find it.
+/// A fault. The table in main.rs has the group of cases that is to find it.
 #[derive(Clone, Copy, Debug, PartialEq, Eq)]
 pub enum Fault {
     // Found in lists.
@@ -17,6 +20,11 @@ pub enum Fault {
     PageOfARefusal,
     DamagedDropped,
     OnlyFirstChange,
+    // Found in a long stream alone: no other chunk is of 65536 bytes.
+    LengthOf16Bits,
+    // Found in the comparison with the reckoning.
+    ReckonedSkipped,
+    ReckonedHeld,
     // Found in single feeds.
     SizeBeforeCode,
     SentValueSaved,
@@ -33,10 +41,31 @@ pub enum Fault {
     RangeModulo256,
     SignallingNanWritten,
     PageOfNoEntry,
-    ValueOfWrongSize,
+    ValueOfRefusedPage,
     ValueNotThere,
     BodyFromFactory,
+    FactoryPageUntested,
+    RoomBeforePages,
     FactoryPageInLongRoom,
+    // Found in the comparison with the wrapper.
+    WrappedSaveMark,
+    WrappedBoard,
+    WrappedRoom,
+    WrappedPage,
+    WrappedStart,
+    WrappedMessageCheck,
+    WrappedReply,
+    WrappedField,
+    WrappedFieldData,
+    WrappedMessage,
+    WrappedCommand,
+    WrappedData,
+    WrappedDataBits,
+    WrappedPageCheck,
+    WrappedValuesRead,
+    WrappedValuesWritten,
+    WrappedBody,
+    WrappedFactoryPage,
 }
 
 /// The fault, planted.
@@ -45,6 +74,14 @@ pub struct Planted(pub Fault);
 impl Planted {
     fn is(&self, fault: Fault) -> bool {
         self.0 == fault
+    }
+
+    /// The wrapper's result. Where this fault is planted, a refusal is told as the next one.
+    fn next_refusal<T>(&self, fault: Fault, result: Result<T, Refusal>) -> Result<T, Refusal> {
+        match result {
+            Err(refusal) if self.is(fault) => Err(Refusal::from_number(refusal.number() + 1).unwrap_or(Refusal::Port)),
+            result => result,
+        }
     }
 }
 
@@ -59,7 +96,8 @@ impl Calls for Planted {
 
     fn feed(&self, port: u8, board: Board, chunk: &[u8], room: &mut [u8], page: &mut [u8]) -> Fed {
         let page_before = page.to_vec();
-        let mut fed = ffi::feed(port, board, chunk, room, page);
+        let chunk = if self.is(Fault::LengthOf16Bits) { &chunk[..chunk.len() % 65536] } else { chunk };
+        let mut fed = calls::feed(port, board, chunk, room, page);
         match self.0 {
             Fault::ReplyOfError4 if fed.number == 0 && room[7] == 4 => room[9] ^= 1,
             Fault::RoomPastTheReply if fed.number == 0 && room.len() > 16 => room[16] = 0,
@@ -142,12 +180,13 @@ impl Calls for Planted {
         }
     }
 
-    fn read_page(&self, page: &[u8]) -> FlatValues {
-        let mut values = ffi::read_page(page);
-        if self.is(Fault::ValueOfWrongSize) && page.len() == 64 && page[..2] == [1, 7] && !values.has_accelerometer {
-            values.has_accelerometer = true;
+    fn read_page(&self, page: &[u8]) -> FlatPage {
+        let mut read = ffi::read_page(page);
+        if self.is(Fault::ValueOfRefusedPage) && read.number == 20 && page[..4] == [1, 7, 4, 1] {
+            read.values.has_accelerometer = true;
+            read.values.accelerometer = u32::from(page[4]);
         }
-        values
+        read
     }
 
     fn write_page(&self, mut values: FlatValues, page: &mut [u8]) -> u8 {
@@ -158,14 +197,20 @@ impl Calls for Planted {
     }
 
     fn copy_body(&self, saved: &[u8], factory: &[u8], code: u8, room: &mut [u8]) -> Written {
-        if self.is(Fault::BodyFromFactory) && saved.first() == Some(&4) {
-            return ffi::copy_body(&saved[1..], factory, code, room);
+        match ffi::copy_body(saved, factory, code, room) {
+            // Of a page that has all three entries the last is not found.
+            Written { number: 0, .. } if self.is(Fault::BodyFromFactory) && saved[0] == 3 && code == 8 => {
+                ffi::copy_body(&[0xFF; 64], factory, code, room)
+            }
+            // The factory page is tested only where it is looked into.
+            Written { number: 19 | 20, .. } if self.is(Fault::FactoryPageUntested) && has_entry(saved, code) => {
+                ffi::copy_body(saved, saved, code, room)
+            }
+            Written { number: 19 | 20, length } if self.is(Fault::RoomBeforePages) && room.is_empty() => {
+                Written { number: 18, length }
+            }
+            written => written,
         }
-        let written = ffi::copy_body(saved, factory, code, room);
-        if self.is(Fault::BodyFromFactory) && written.length == 0 && written.number == 0 {
-            return ffi::copy_body(factory, factory, code, room);
-        }
-        written
     }
 
     fn factory_page(&self, room: &mut [u8]) -> Written {
@@ -175,6 +220,112 @@ impl Calls for Planted {
         }
         written
     }
+
+    fn answer_reckoned(&self, mut answer: Reckoned) -> Reckoned {
+        if self.is(Fault::ReckonedSkipped) && answer.number == 1 && answer.taken == 0 {
+            answer.skipped = 0;
+        }
+        answer
+    }
+
+    fn board_reckoned(&self, mut board: Board) -> Board {
+        if self.is(Fault::ReckonedHeld) && board.second.held > 1 {
+            board.second.held -= 1;
+        }
+        board
+    }
+}
+
+impl Wrapper for Planted {
+    fn wrapped_start(&self, page: &[u8]) -> Result<Board, Refusal> {
+        self.next_refusal(Fault::WrappedStart, Board::start(page))
+    }
+
+    fn wrapped_feed(
+        &self,
+        port: u8,
+        board: &mut Board,
+        chunk: &[u8],
+        room: &mut [u8],
+        page: &mut [u8],
+    ) -> Result<Outcome, Refusal> {
+        let mut outcome = board.feed(port, chunk, room, page);
+        match (&mut outcome, self.0) {
+            (Ok(Outcome::Reported { saved, .. }), Fault::WrappedSaveMark) => *saved = false,
+            (Ok(Outcome::Reported { saved: true, .. }), Fault::WrappedPage) => page[63] = 0,
+            (Ok(Outcome::UsedUp { .. }), Fault::WrappedRoom) => room[0] = 0xA5,
+            // A refused feed loses what a port holds.
+            (Err(_), Fault::WrappedBoard) => board.first = Port::new(),
+            _ => {}
+        }
+        outcome
+    }
+
+    fn wrapped_check_message(&self, message: &[u8]) -> Result<(), Refusal> {
+        self.next_refusal(Fault::WrappedMessageCheck, ketphiroj::check_message(message))
+    }
+
+    fn wrapped_write_message(&self, kind: u8, payload: &[u8], room: &mut [u8]) -> Result<usize, Refusal> {
+        self.next_refusal(Fault::WrappedMessage, ketphiroj::write_message(kind, payload, room))
+    }
+
+    fn wrapped_write_command(&self, code: u8, function: u8, value: u32, room: &mut [u8]) -> Result<usize, Refusal> {
+        self.next_refusal(Fault::WrappedCommand, ketphiroj::write_command(code, function, value, room))
+    }
+
+    fn wrapped_read_reply(&self, message: &[u8]) -> Result<Reply, Refusal> {
+        self.next_refusal(Fault::WrappedReply, ketphiroj::read_reply(message))
+    }
+
+    fn wrapped_read_field(&self, message: &[u8], k: usize) -> Result<Field, Refusal> {
+        self.next_refusal(Fault::WrappedField, ketphiroj::read_field(message, k))
+    }
+
+    fn wrapped_field_data<'a>(&self, message: &'a [u8], k: usize) -> Result<&'a [u8], Refusal> {
+        self.next_refusal(Fault::WrappedFieldData, ketphiroj::field_data(message, k))
+    }
+
+    fn wrapped_write_data(&self, [acceleration, rate]: [[f32; 3]; 2], room: &mut [u8]) -> Result<usize, Refusal> {
+        self.next_refusal(Fault::WrappedData, ketphiroj::write_data(acceleration, rate, room))
+    }
+
+    fn wrapped_write_data_bits(&self, [acceleration, rate]: [[u32; 3]; 2], room: &mut [u8]) -> Result<usize, Refusal> {
+        self.next_refusal(Fault::WrappedDataBits, ketphiroj::write_data_bits(acceleration, rate, room))
+    }
+
+    fn wrapped_check_page(&self, page: &[u8]) -> Result<(), Refusal> {
+        self.next_refusal(Fault::WrappedPageCheck, ketphiroj::check_page(page))
+    }
+
+    fn wrapped_read_values(&self, page: &[u8]) -> Result<Values, Refusal> {
+        match Values::read(page) {
+            // A page that is neither blank nor sound is read as a blank one.
+            Err(Refusal::Page) if self.is(Fault::WrappedValuesRead) => Ok(Values::default()),
+            read => read,
+        }
+    }
+
+    fn wrapped_write_values(&self, values: &Values, page: &mut [u8]) -> Result<(), Refusal> {
+        self.next_refusal(Fault::WrappedValuesWritten, values.write(page))
+    }
+
+    fn wrapped_copy_body(&self, saved: &[u8], factory: &[u8], code: u8, room: &mut [u8]) -> Result<usize, Refusal> {
+        self.next_refusal(Fault::WrappedBody, ketphiroj::copy_body(saved, factory, code, room))
+    }
+
+    fn wrapped_factory_page(&self) -> [u8; PAGE] {
+        let mut page = ketphiroj::factory_page();
+        if self.is(Fault::WrappedFactoryPage) {
+            page[63] = 0;
+        }
+        page
+    }
+}
+
+/// Whether a blank or sound page has an entry under a code; false for any other page.
+fn has_entry(page: &[u8], code: u8) -> bool {
+    let body = plain::body(page, &[0xFF; 64], code).1;
+    !body.is_empty()
 }
 
 /// Of a damaged message all is dropped, and not one byte.
@@ -193,7 +344,7 @@ fn error_4_for_wrong_size(chunk: &[u8], room: &mut [u8]) {
 
 /// Function 3 of a range saves the value that came with it.
 fn save_sent_range(chunk: &[u8], page: &mut [u8]) {
-    let mut values = ffi::read_page(page);
+    let mut values = ffi::read_page(page).values;
     match chunk[4] {
         0x07 => values.accelerometer = u32::from(chunk[7]),
         _ => values.gyroscope = u32::from(chunk[7]),

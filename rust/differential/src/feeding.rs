@@ -3,6 +3,7 @@
 use crate::calls::Calls;
 use crate::group::{filled, same, Outcome};
 use crate::records;
+use crate::wrapper::Wrapper;
 use ketphiroj::{Board, Refusal};
 
 /// A board of the library and its page, and those of the plain reading, which are the same so far.
@@ -70,11 +71,17 @@ pub fn feed(calls: &impl Calls, pair: &mut Pair, given: &Feed) -> Result<(plain:
 }
 
 /// The wrapper on the same feed: its outcome says what the numbers say, and the board of a refusal stays.
-pub fn feed_wrapped(before: &Pair, after: &Pair, given: &Feed, fed: &plain::Fed, room: &[u8]) -> Outcome {
+pub fn feed_wrapped(
+    wrapper: &impl Wrapper,
+    (before, after): (&Pair, &Pair),
+    given: &Feed,
+    fed: &plain::Fed,
+    room: &[u8],
+) -> Outcome {
     let mut board = before.board;
     let mut page = before.page.clone();
     let mut wrapped_room = filled(given.room, 0x5C ^ given.chunk.len() as u8);
-    let outcome = board.feed(given.port, given.chunk, &mut wrapped_room, &mut page);
+    let outcome = wrapper.wrapped_feed(given.port, &mut board, given.chunk, &mut wrapped_room, &mut page);
     let (taken, skipped, saved) = (fed.taken, fed.skipped, fed.saved);
     let expected = match fed.number {
         0 => Ok(ketphiroj::Outcome::Reported { taken, skipped, saved, reply: usize::from(room[3]) + 6 }),

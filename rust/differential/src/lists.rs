@@ -23,7 +23,7 @@ pub fn run(calls: &impl Calls, page: &[u8], list: &[Step], beside: Beside, ran: 
     for (place, step) in list.iter().enumerate() {
         match step {
             Step::Restart => {
-                reckoned_end(&reckoning, &pair)?;
+                reckoned_end(calls, &reckoning, &pair)?;
                 pair = started(calls, &pair.page.clone())?;
                 reckoning = reckoning.map(|_| Reckoning::new(&pair.page));
             }
@@ -34,7 +34,7 @@ pub fn run(calls: &impl Calls, page: &[u8], list: &[Step], beside: Beside, ran: 
             }
         }
     }
-    reckoned_end(&reckoning, &pair)
+    reckoned_end(calls, &reckoning, &pair)
 }
 
 fn started(calls: &impl Calls, page: &[u8]) -> Result<Pair, String> {
@@ -54,11 +54,11 @@ fn feed(
     let before = (beside == Beside::Wrapper).then(|| pair.clone());
     let (fed, room) = feeding::feed(calls, pair, &given)?;
     if let Some(before) = before {
-        feeding::feed_wrapped(&before, pair, &given, &fed, &room)?;
+        feeding::feed_wrapped(calls, (&before, pair), &given, &fed, &room)?;
     }
     if let Some(reckoning) = reckoning {
         let reckoned = reckoning.feed(call.port, &call.chunk, call.room);
-        same("answer and reckoning", &answer(&fed, &room), &reckoned)?;
+        same("answer and reckoning", &calls.answer_reckoned(answer(&fed, &room)), &reckoned)?;
     }
     Ok(fed.number)
 }
@@ -70,12 +70,12 @@ fn answer(fed: &plain::Fed, room: &[u8]) -> Reckoned {
 }
 
 /// Settings, held bytes and page as reckoned; past the held bytes a port is zero.
-fn reckoned_end(reckoning: &Option<Reckoning>, pair: &Pair) -> Outcome {
+fn reckoned_end(calls: &impl Calls, reckoning: &Option<Reckoning>, pair: &Pair) -> Outcome {
     let Some(reckoning) = reckoning else {
         return Ok(());
     };
     let settings = reckoning.settings();
-    let board = &pair.board;
+    let board = calls.board_reckoned(pair.board);
     same("reckoned baud", &board.settings.baud, &settings.baud)?;
     same("reckoned accelerometer", &board.settings.accelerometer, &settings.accelerometer)?;
     same("reckoned gyroscope", &board.settings.gyroscope, &settings.gyroscope)?;
@@ -204,10 +204,11 @@ fn cut_for_one_port(rng: &mut Rng, stream: &[u8]) -> Vec<Step> {
     list
 }
 
-/// A stream much longer than a port's room, given whole to each feed as far as it was not taken.
+/// A stream much longer than a port's room, given whole to each feed as far as it was not taken. Its length does not fit
+/// 16 bits.
 pub fn long(calls: &impl Calls, rng: &mut Rng, ran: &mut Ran) -> Outcome {
     let page = generate::sound_page(rng);
-    let stream: Vec<u8> = (0..4000).flat_map(|_| generate::piece(rng)).collect();
+    let stream: Vec<u8> = (0..6000).flat_map(|_| generate::piece(rng)).collect();
     let mut pair = started(calls, &page)?;
     let mut at = 0;
     loop {

@@ -14,6 +14,7 @@ mod messages;
 mod pages;
 mod records;
 mod singles;
+mod wrapper;
 
 use calls::{Calls, Library};
 use faults::{Fault, Planted};
@@ -94,7 +95,8 @@ impl Group {
             Group::Replies => &[0, 23],
             Group::WrittenMessages => &[0, 18, 26],
             Group::WrittenCommands => &[0, 18, 28],
-            Group::WrittenData | Group::Bodies | Group::FactoryPages => &[0, 18],
+            Group::Bodies => &[0, 18, 19, 20],
+            Group::WrittenData | Group::FactoryPages => &[0, 18],
         }
     }
 
@@ -131,63 +133,58 @@ impl Group {
     }
 }
 
-/// The group that is to find a fault.
-fn finder(fault: Fault) -> Group {
-    match fault {
-        Fault::ReplyOfError4
-        | Fault::RoomPastTheReply
-        | Fault::SkippedOfHeldMessage
-        | Fault::MarkOfTheSameSave
-        | Fault::OtherPort
-        | Fault::PageOfARefusal
-        | Fault::DamagedDropped
-        | Fault::OnlyFirstChange => Group::Lists,
-        Fault::LongestMessage => Group::HardLists,
-        Fault::SizeBeforeCode | Fault::SentValueSaved => Group::Commands,
-        Fault::JunkKept | Fault::UnsoundBeforePort => Group::Boards,
-        Fault::StartOnThreeEntries => Group::Starts,
-        Fault::WholeWithoutSums | Fault::SignallingNanRead | Fault::FieldPlace | Fault::FieldCopyInShortRoom => {
-            Group::Readers
-        }
-        Fault::ReplyOfError5 => Group::Replies,
-        Fault::RoomThatJustFits => Group::WrittenMessages,
-        Fault::RangeModulo256 => Group::WrittenCommands,
-        Fault::SignallingNanWritten => Group::WrittenData,
-        Fault::PageOfNoEntry | Fault::ValueOfWrongSize => Group::Pages,
-        Fault::ValueNotThere => Group::WrittenPages,
-        Fault::BodyFromFactory => Group::Bodies,
-        Fault::FactoryPageInLongRoom => Group::FactoryPages,
-    }
-}
-
-const FAULTS: [Fault; 27] = [
-    Fault::ReplyOfError4,
-    Fault::RoomPastTheReply,
-    Fault::SkippedOfHeldMessage,
-    Fault::MarkOfTheSameSave,
-    Fault::OtherPort,
-    Fault::LongestMessage,
-    Fault::PageOfARefusal,
-    Fault::DamagedDropped,
-    Fault::OnlyFirstChange,
-    Fault::SizeBeforeCode,
-    Fault::SentValueSaved,
-    Fault::JunkKept,
-    Fault::UnsoundBeforePort,
-    Fault::StartOnThreeEntries,
-    Fault::WholeWithoutSums,
-    Fault::ReplyOfError5,
-    Fault::SignallingNanRead,
-    Fault::FieldPlace,
-    Fault::FieldCopyInShortRoom,
-    Fault::RoomThatJustFits,
-    Fault::RangeModulo256,
-    Fault::SignallingNanWritten,
-    Fault::PageOfNoEntry,
-    Fault::ValueOfWrongSize,
-    Fault::ValueNotThere,
-    Fault::BodyFromFactory,
-    Fault::FactoryPageInLongRoom,
+/// Each planted fault, and the group that is to find it.
+const FAULTS: [(Fault, Group); 50] = [
+    (Fault::ReplyOfError4, Group::Lists),
+    (Fault::RoomPastTheReply, Group::Lists),
+    (Fault::SkippedOfHeldMessage, Group::Lists),
+    (Fault::MarkOfTheSameSave, Group::Lists),
+    (Fault::OtherPort, Group::Lists),
+    (Fault::PageOfARefusal, Group::Lists),
+    (Fault::DamagedDropped, Group::Lists),
+    (Fault::OnlyFirstChange, Group::Lists),
+    (Fault::LongestMessage, Group::HardLists),
+    (Fault::ReckonedSkipped, Group::ReckonedLists),
+    (Fault::ReckonedHeld, Group::ReckonedLists),
+    (Fault::WrappedSaveMark, Group::WrappedLists),
+    (Fault::WrappedBoard, Group::WrappedLists),
+    (Fault::WrappedRoom, Group::WrappedLists),
+    (Fault::WrappedPage, Group::WrappedLists),
+    (Fault::LengthOf16Bits, Group::LongStreams),
+    (Fault::JunkKept, Group::Boards),
+    (Fault::UnsoundBeforePort, Group::Boards),
+    (Fault::SizeBeforeCode, Group::Commands),
+    (Fault::SentValueSaved, Group::Commands),
+    (Fault::StartOnThreeEntries, Group::Starts),
+    (Fault::WrappedStart, Group::Starts),
+    (Fault::WholeWithoutSums, Group::Readers),
+    (Fault::SignallingNanRead, Group::Readers),
+    (Fault::FieldPlace, Group::Readers),
+    (Fault::FieldCopyInShortRoom, Group::Readers),
+    (Fault::WrappedMessageCheck, Group::Readers),
+    (Fault::WrappedField, Group::Readers),
+    (Fault::WrappedFieldData, Group::Readers),
+    (Fault::ReplyOfError5, Group::Replies),
+    (Fault::WrappedReply, Group::Replies),
+    (Fault::RoomThatJustFits, Group::WrittenMessages),
+    (Fault::WrappedMessage, Group::WrittenMessages),
+    (Fault::RangeModulo256, Group::WrittenCommands),
+    (Fault::WrappedCommand, Group::WrittenCommands),
+    (Fault::SignallingNanWritten, Group::WrittenData),
+    (Fault::WrappedData, Group::WrittenData),
+    (Fault::WrappedDataBits, Group::WrittenData),
+    (Fault::PageOfNoEntry, Group::Pages),
+    (Fault::ValueOfRefusedPage, Group::Pages),
+    (Fault::WrappedPageCheck, Group::Pages),
+    (Fault::WrappedValuesRead, Group::Pages),
+    (Fault::ValueNotThere, Group::WrittenPages),
+    (Fault::WrappedValuesWritten, Group::WrittenPages),
+    (Fault::BodyFromFactory, Group::Bodies),
+    (Fault::FactoryPageUntested, Group::Bodies),
+    (Fault::RoomBeforePages, Group::Bodies),
+    (Fault::WrappedBody, Group::Bodies),
+    (Fault::FactoryPageInLongRoom, Group::FactoryPages),
+    (Fault::WrappedFactoryPage, Group::FactoryPages),
 ];
 
 /// The checks that passed and failed.
@@ -236,9 +233,8 @@ fn compare(group: Group, seed: u64, scale: u64, tally: &mut Tally) {
     }
 }
 
-/// Runs the group that is to find a fault on the library with the fault in it.
-fn plant(fault: Fault, seed: u64, tally: &mut Tally) {
-    let group = finder(fault);
+/// Runs the group that is to find a fault with the fault in it.
+fn plant(fault: Fault, group: Group, seed: u64, tally: &mut Tally) {
     let found = group.run(&Planted(fault), seed, group.cases(), &mut Ran::default());
     tally.check(found.is_err());
     match found {
@@ -264,13 +260,21 @@ fn main() -> ExitCode {
     for group in GROUPS {
         compare(group, seed, scale, &mut tally);
     }
-    for fault in FAULTS {
-        plant(fault, seed, &mut tally);
+    for (fault, group) in FAULTS {
+        plant(fault, group, seed, &mut tally);
     }
     println!("{} passed, {} failed", tally.passed, tally.failed);
     if tally.failed == 0 {
         ExitCode::SUCCESS
     } else {
         ExitCode::FAILURE
+    }
+}
+
+/// A group in which no fault is planted is not shown to be able to fail.
+#[test]
+fn every_group_has_a_fault() {
+    for group in GROUPS {
+        assert!(FAULTS.iter().any(|&(_, finder)| finder == group), "{group:?}");
     }
 }

@@ -102,7 +102,7 @@ fn check(calls: &impl Calls, message: &[u8], ran: &mut Ran) -> Outcome {
     ran.count(number);
     same("check_message", &calls.check_message(message), &number)?;
     let expected = if number == 0 { Ok(()) } else { Err(number) };
-    same("wrapped check", &ketphiroj::check_message(message).map_err(Refusal::number), &expected)
+    same("wrapped check", &calls.wrapped_check_message(message).map_err(Refusal::number), &expected)
 }
 
 fn reply(calls: &impl Calls, message: &[u8], ran: &mut Ran) -> Outcome {
@@ -111,7 +111,7 @@ fn reply(calls: &impl Calls, message: &[u8], ran: &mut Ran) -> Outcome {
     same("read_reply", &calls.read_reply(message), &records::reply(read))?;
     let plain::Reply { number, kind, echo, error, value } = read;
     let expected = if number == 0 { Ok(Reply { kind, echo, error, value }) } else { Err(number) };
-    same("wrapped reply", &ketphiroj::read_reply(message).map_err(Refusal::number), &expected)
+    same("wrapped reply", &calls.wrapped_read_reply(message).map_err(Refusal::number), &expected)
 }
 
 fn field(calls: &impl Calls, message: &[u8], k: usize, ran: &mut Ran) -> Outcome {
@@ -124,7 +124,7 @@ fn field(calls: &impl Calls, message: &[u8], k: usize, ran: &mut Ran) -> Outcome
         plain::Field::Rate(bits) => Ok(Field::Rate(Axes::from(bits))),
         plain::Field::Unknown { code, place } => Ok(Field::Unknown { code, place }),
     };
-    same("wrapped field", &ketphiroj::read_field(message, k).map_err(Refusal::number), &expected)
+    same("wrapped field", &calls.wrapped_read_field(message, k).map_err(Refusal::number), &expected)
 }
 
 /// A field's data, copied to a room, and as a part of the message itself: the same bytes at the same place.
@@ -136,7 +136,7 @@ fn field_copy(calls: &impl Calls, message: &[u8], k: usize, room: usize, ran: &m
         refused => records::written((refused, 0)),
     };
     writing("copy_field", room, |room| calls.copy_field(message, k, room), expected, ran)?;
-    let wrapped = ketphiroj::field_data(message, k).map_err(Refusal::number);
+    let wrapped = calls.wrapped_field_data(message, k).map_err(Refusal::number);
     let expected = if number == 0 { Ok(part) } else { Err(number) };
     same("field_data", &wrapped, &expected)?;
     same("place of field_data", &wrapped.map(<[u8]>::as_ptr), &expected.map(<[u8]>::as_ptr))
@@ -171,7 +171,7 @@ pub fn write_messages(calls: &impl Calls, rng: &mut Rng, ran: &mut Ran) -> Outco
                 ran,
             )
             .map_err(|text| format!("{text}\n  type {kind:02X}, payload {}, room {room}", hex(&payload)))?;
-            wrapped("wrapped message", &written, |room| ketphiroj::write_message(kind, &payload, room))?;
+            wrapped("wrapped message", &written, |room| calls.wrapped_write_message(kind, &payload, room))?;
         }
     }
     Ok(())
@@ -187,7 +187,7 @@ fn one_command(calls: &impl Calls, given: (u8, u8, u32), room: usize, ran: &mut 
         ran,
     )
     .map_err(|text| format!("{text}\n  code {code:02X}, function {function}, value {value}, room {room}"))?;
-    wrapped("wrapped command", &written, |room| ketphiroj::write_command(code, function, value, room))
+    wrapped("wrapped command", &written, |room| calls.wrapped_write_command(code, function, value, room))
 }
 
 /// The command writer: each code and function; under the board's codes many values, and rooms of all lengths.
@@ -223,8 +223,8 @@ pub fn write_data(calls: &impl Calls, rng: &mut Rng, ran: &mut Ran) -> Outcome {
     )
     .map_err(|text| format!("{text}\n  {acceleration:08X?} {rate:08X?}, room {room}"))?;
     let floats = |bits: [u32; 3]| Axes::from(bits).floats();
-    wrapped("wrapped data", &written, |room| ketphiroj::write_data(floats(acceleration), floats(rate), room))?;
-    wrapped("wrapped bits", &written, |room| ketphiroj::write_data_bits(acceleration, rate, room))?;
+    wrapped("wrapped data", &written, |room| calls.wrapped_write_data([floats(acceleration), floats(rate)], room))?;
+    wrapped("wrapped bits", &written, |room| calls.wrapped_write_data_bits([acceleration, rate], room))?;
     if written.0.number == 0 {
         field(calls, &written.1[..34], 0, ran)?;
         field(calls, &written.1[..34], 1, ran)?;

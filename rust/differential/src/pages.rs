@@ -5,21 +5,30 @@ use crate::group::{filled, same, Outcome, Ran};
 use crate::lists::hex;
 use crate::records;
 use crate::singles::all_values;
-use ketphiroj::ffi::FlatValues;
+use ketphiroj::ffi::{FlatPage, FlatValues};
 use ketphiroj::{Refusal, Values};
 use plain::generate::{self, Rng};
 
 /// The test and the values of a page of any contents and length.
 pub fn read(calls: &impl Calls, page: &[u8], ran: &mut Ran) -> Outcome {
-    let number = plain::check_page(page);
-    let values = records::values(&plain::read_values(page));
+    let (number, values) = plain::read_page(page);
+    let values = records::values(&values);
     ran.count(number);
-    let compared = same("check_page", &calls.check_page(page), &number)
-        .and_then(|()| same("read_page", &calls.read_page(page), &values))
-        .and_then(|()| same("wrapped values", &Values::read(page), &optional(&values)));
-    compared.map_err(|text| format!("{text}\n  page {}", hex(page)))?;
-    let expected = if number == 0 { Ok(()) } else { Err(number) };
-    same("wrapped check", &ketphiroj::check_page(page).map_err(Refusal::number), &expected)
+    let read = calls.wrapped_read_values(page).map_err(Refusal::number);
+    let checked = calls.wrapped_check_page(page).map_err(Refusal::number);
+    same("check_page", &calls.check_page(page), &number)
+        .and_then(|()| same("read_page", &calls.read_page(page), &FlatPage { values, number }))
+        .and_then(|()| same("wrapped values", &read, &done_or(number, optional(&values))))
+        .and_then(|()| same("wrapped check", &checked, &done_or(number, ())))
+        .map_err(|text| format!("{text}\n  page {}", hex(page)))
+}
+
+/// What the wrapper gives where a call answers this number.
+fn done_or<T>(number: u8, done: T) -> Result<T, u8> {
+    match number {
+        plain::number::DONE => Ok(done),
+        refused => Err(refused),
+    }
 }
 
 fn optional(flat: &FlatValues) -> Values {
@@ -73,10 +82,10 @@ fn write_one(calls: &impl Calls, values: FlatValues, length: usize, ran: &mut Ra
     let number = plain_writing(&values, &mut pages[0]);
     ran.count(number);
     let written = calls.write_page(values, &mut pages[1]);
-    let wrapped = optional(&values).write(&mut pages[2]).map_err(Refusal::number);
+    let wrapped = calls.wrapped_write_values(&optional(&values), &mut pages[2]).map_err(Refusal::number);
     same("write_page", &written, &number)
         .and_then(|()| same("page", &pages[1], &pages[0]))
-        .and_then(|()| same("wrapped write", &wrapped, &if number == 0 { Ok(()) } else { Err(number) }))
+        .and_then(|()| same("wrapped write", &wrapped, &done_or(number, ())))
         .and_then(|()| same("wrapped page", &pages[2], &pages[0]))
         .map_err(|text| format!("{text}\n  {values:?}, page of {length} bytes"))
 }
@@ -101,18 +110,21 @@ pub fn write_all(calls: &impl Calls, rng: &mut Rng, ran: &mut Ran) -> Outcome {
     Ok(())
 }
 
-/// A body of the saved or the factory page, both of any contents, in a room of any length.
+/// A body of the saved or the factory page, both of any contents and length, in a room of any length.
 pub fn copy_body(calls: &impl Calls, rng: &mut Rng, ran: &mut Ran) -> Outcome {
     let saved = generate::page(rng);
     let factory = if rng.chance(1, 2) { plain::factory_page().to_vec() } else { generate::page(rng) };
     let code = generate::code(rng);
     let length = if rng.chance(1, 8) { rng.below(80) } else { rng.below(8) };
     let mut rooms = [filled(length, 0x3D), filled(length, 0x3D), filled(length, 0x3D)];
-    let expected = records::put(plain::body(&saved, &factory, code), &mut rooms[0]);
+    let expected = match plain::body(&saved, &factory, code) {
+        (plain::number::DONE, body) => records::put(body, &mut rooms[0]),
+        (refused, _) => records::written((refused, 0)),
+    };
     ran.count(expected.number);
     let written = calls.copy_body(&saved, &factory, code, &mut rooms[1]);
-    let wrapped = ketphiroj::copy_body(&saved, &factory, code, &mut rooms[2]).map_err(Refusal::number);
-    let answer = if expected.number == 0 { Ok(expected.length) } else { Err(expected.number) };
+    let wrapped = calls.wrapped_copy_body(&saved, &factory, code, &mut rooms[2]).map_err(Refusal::number);
+    let answer = done_or(expected.number, expected.length);
     same("copy_body", &written, &expected)
         .and_then(|()| same("room", &rooms[1], &rooms[0]))
         .and_then(|()| same("wrapped body", &wrapped, &answer))
@@ -130,5 +142,5 @@ pub fn factory_page(calls: &impl Calls, ran: &mut Ran) -> Outcome {
         same("factory_page", &calls.factory_page(&mut room), &expected)?;
         same("factory page's room", &room, &plain_room)?;
     }
-    same("wrapped factory page", &ketphiroj::factory_page(), &plain::factory_page())
+    same("wrapped factory page", &calls.wrapped_factory_page(), &plain::factory_page())
 }

@@ -23,7 +23,7 @@ fn one(calls: &impl Calls, before: &Pair, given: &Feed, ran: &mut Ran) -> Outcom
     let fed = feeding::feed(calls, &mut after, given);
     let compared = fed.and_then(|(fed, room)| {
         ran.count(fed.number);
-        feeding::feed_wrapped(before, &after, given, &fed, &room)
+        feeding::feed_wrapped(calls, (before, &after), given, &fed, &room)
     });
     compared.map_err(|text| format!("{text}\n{}", shown(before, given)))
 }
@@ -48,7 +48,7 @@ fn shown(before: &Pair, given: &Feed) -> String {
 pub fn start(calls: &impl Calls, page: &[u8], ran: &mut Ran) -> Outcome {
     let (number, pair) = feeding::start(calls, page).map_err(|text| format!("{text}\n  page {}", hex(page)))?;
     ran.count(number);
-    let wrapped = ketphiroj::Board::start(page).map_err(|refusal| refusal.number());
+    let wrapped = calls.wrapped_start(page).map_err(|refusal| refusal.number());
     let expected = if number == 0 { Ok(pair.board) } else { Err(number) };
     crate::group::same("wrapped start", &wrapped, &expected)
 }

@@ -1,7 +1,9 @@
 //! The board's protocol in plain Rust, and material to test with.
 //!
-//! This is a reading of the paper ("01", the board's protocol, line by line) and of nothing else. It is slow and
-//! obvious, in the paper's words and order; numbers such as 01-014 are those of the paper's sentences. [`generate`]
+//! This is a reading of the paper ("01", the board's protocol, line by line) and not of the library. It is slow and
+//! obvious, in the paper's words and order; numbers such as 01-014 are those of the paper's sentences. READINGS.md says
+//! how each sentence is read that leaves a doubt, and which readings docs/DECISIONS.md settles. [`read_page`] and
+//! [`body`] are no calls of the paper's: which numbers they give, and in which order, is decided there. [`generate`]
 //! makes messages, streams, pages, boards and lists of feeds from a seed.
 //!
 //! The paper, section by section:
@@ -37,7 +39,7 @@ pub mod writers;
 pub use handling::{allowed, error_of, handle, reply_of, value_size, Handled, Settings, FACTORY};
 pub use listing::listing;
 pub use message::{check_message, message, sums, sums_right, Sums};
-pub use page::{allowed_values, body, check_page, factory_page, read_values, values, write_page, Values};
+pub use page::{body, check_page, factory_page, read_page, values, write_page, Values};
 pub use port::{feed, start, Board, Fed, Port};
 pub use readers::{field_data, read_field, read_reply, Field, Reply};
 pub use reckoning::{Reckoned, Reckoning};

@@ -45,7 +45,7 @@ impl Values {
 }
 
 /// Whether each value that is there is allowed.
-pub fn allowed_values(values: &Values) -> bool {
+fn allowed_values(values: &Values) -> bool {
     CODES.iter().all(|&code| match values.value(code) {
         None => true,
         Some(value) => allowed(code, value),
@@ -98,49 +98,22 @@ pub fn factory_page() -> [u8; PAGE] {
     })
 }
 
-/// The body that a page has under a code, if the page has the entry. For any bytes, as decided: a page that is not 64
-/// bytes, or whose count is over 3, has no entry; a body that runs past the end is empty. Of two entries with the same
-/// code the first is meant.
-fn entry(page: &[u8], code: u8) -> Option<&[u8]> {
-    if page.len() != PAGE {
-        return None;
-    }
+/// The values that a page of 64 bytes must have been written from, if it is the writing of any: the codes of its entries,
+/// and the bodies behind them in the same order. Whether it is their writing is not told.
+fn values_behind(page: &[u8]) -> Option<Values> {
     let count = usize::from(page[0]);
-    if count > 3 {
+    if count > CODES.len() {
         return None;
     }
-    for place in 0..count {
-        let entry = &page[1 + 3 * place..4 + 3 * place];
-        if entry[0] == code {
-            let offset = usize::from(entry[1]);
-            let length = usize::from(entry[2]);
-            return Some(page.get(offset..offset + length).unwrap_or(&[]));
-        }
-    }
-    None
-}
-
-/// 01-056: "take the body from the page if it has the entry, else from the factory page". Where neither has it, the
-/// body is empty.
-pub fn body<'a>(saved: &'a [u8], factory: &'a [u8], code: u8) -> &'a [u8] {
-    match entry(saved, code) {
-        Some(body) => body,
-        None => entry(factory, code).unwrap_or(&[]),
-    }
-}
-
-/// The values that a page of any bytes holds, allowed or not. As decided: an entry whose body has not the value's size
-/// holds no value.
-pub fn read_values(page: &[u8]) -> Values {
     let mut values = Values::default();
-    for code in CODES {
-        if let Some(body) = entry(page, code) {
-            if Some(body.len()) == value_size(code) {
-                values = values.with(code, number_of(body));
-            }
-        }
+    let mut place = 1 + 3 * count;
+    for entry in 0..count {
+        let code = page[1 + 3 * entry];
+        let size = value_size(code)?;
+        values = values.with(code, number_of(&page[place..place + size]));
+        place += size;
     }
-    values
+    Some(values)
 }
 
 /// The values of a blank or sound page; nothing for another one.
@@ -154,12 +127,7 @@ pub fn values(page: &[u8]) -> Option<Values> {
     if page.iter().all(|&byte| byte == 0xFF) {
         return Some(Values::default());
     }
-    // If the page is the writing of some allowed values, they are those that are read from it.
-    let read = read_values(page);
-    if allowed_values(&read) && write_page(&read)[..] == *page {
-        return Some(read);
-    }
-    None
+    values_behind(page).filter(|values| allowed_values(values) && write_page(values)[..] == *page)
 }
 
 /// 0, or the first of 19 and 20 that applies.
@@ -173,4 +141,44 @@ pub fn check_page(page: &[u8]) -> u8 {
         return number::PAGE;
     }
     number::DONE
+}
+
+/// The test of a page, and its values: none where it is refused, as "a reader: zeros" (01-087) has none.
+pub fn read_page(page: &[u8]) -> (u8, Values) {
+    (check_page(page), values(page).unwrap_or_default())
+}
+
+/// The body that a blank or sound page has under a code, if it has the entry.
+fn entry(page: &[u8], code: u8) -> Option<&[u8]> {
+    // "Blank: 64 bytes FF, no entry."
+    let count = if page[0] == 0xFF { 0 } else { usize::from(page[0]) };
+    for place in 0..count {
+        let entry = &page[1 + 3 * place..4 + 3 * place];
+        if entry[0] == code {
+            let offset = usize::from(entry[1]);
+            let length = usize::from(entry[2]);
+            return Some(&page[offset..offset + length]);
+        }
+    }
+    None
+}
+
+/// 01-056: "take the body from the page if it has the entry, else from the factory page". Both are blank or sound. Where
+/// neither has it, the body is empty.
+pub(crate) fn body_of<'a>(saved: &'a [u8], factory: &'a [u8], code: u8) -> &'a [u8] {
+    match entry(saved, code) {
+        Some(body) => body,
+        None => entry(factory, code).unwrap_or(&[]),
+    }
+}
+
+/// The test of the saved page, then of the factory page, and the body; "an empty part" where one of them is refused.
+pub fn body<'a>(saved: &'a [u8], factory: &'a [u8], code: u8) -> (u8, &'a [u8]) {
+    for page in [saved, factory] {
+        let refused = check_page(page);
+        if refused != number::DONE {
+            return (refused, &[]);
+        }
+    }
+    (number::DONE, body_of(saved, factory, code))
 }

@@ -3,7 +3,7 @@
 use crate::handling::{handle, Settings, ACCELEROMETER, BAUD, FACTORY, GYROSCOPE};
 use crate::message::{length_of, number_of, sums_right};
 use crate::number;
-use crate::page::{body, check_page, factory_page, values, write_page};
+use crate::page::{body_of, check_page, factory_page, values, write_page};
 
 /// 01-019: "A port holds at most 260 bytes of an undecided message or of bytes not yet looked at."
 #[derive(Clone, Copy, Debug, PartialEq, Eq)]
@@ -43,9 +43,9 @@ pub fn start(page: &[u8]) -> (u8, Board) {
     // "Loading, and starting, take the body from the page if it has the entry, else from the factory page."
     let factory = factory_page();
     let settings = Settings {
-        baud: number_of(body(page, &factory, BAUD)),
-        accelerometer: body(page, &factory, ACCELEROMETER)[0],
-        gyroscope: body(page, &factory, GYROSCOPE)[0],
+        baud: number_of(body_of(page, &factory, BAUD)),
+        accelerometer: body_of(page, &factory, ACCELEROMETER)[0],
+        gyroscope: body_of(page, &factory, GYROSCOPE)[0],
     };
     (number::DONE, Board { ports: [Port::fresh(), Port::fresh()], settings })
 }

@@ -28,7 +28,7 @@ fn sound_is_a_writing() {
     assert_eq!(all.len(), 280);
     for (written, page) in &all {
         assert_eq!(values(page), Some(*written));
-        assert_eq!(read_values(page), *written);
+        assert_eq!(read_page(page), (0, *written));
         let (number, board) = start(page);
         assert_eq!(number, 0);
         let expected = Settings {
@@ -68,28 +68,55 @@ fn lookup() {
     let factory = factory_page();
     let blank = [0xFF; 64];
     let saved = page_of("02 010704 080B01 000E1000 07");
-    assert_eq!(body(&saved, &factory, 0x01), [0x00, 0x0E, 0x10, 0x00]);
-    assert_eq!(body(&saved, &factory, 0x07), [0x02]);
-    assert_eq!(body(&saved, &factory, 0x08), [0x07]);
-    assert_eq!(body(&blank, &factory, 0x01), [0x00, 0x01, 0xC2, 0x00]);
-    assert_eq!(body(&saved, &blank, 0x07), []);
-    assert_eq!(body(&saved, &factory, 0x02), []);
-
-    // Any bytes, as decided.
-    assert_eq!(body(&saved[..63], &factory, 0x08), [0x03]);
-    assert_eq!(body(&page_of("04 080401 07"), &factory, 0x08), [0x03]);
-    assert_eq!(body(&page_of("00 080401 07"), &factory, 0x08), [0x03]);
-    assert_eq!(body(&page_of("01 083F01"), &factory, 0x08), [0xFF]);
-    assert_eq!(body(&page_of("01 084000"), &factory, 0x08), []);
-    assert_eq!(body(&page_of("01 083F02"), &factory, 0x08), []);
-    assert_eq!(body(&page_of("01 08FFFF"), &factory, 0x08), []);
-    assert_eq!(body(&page_of("01 080003"), &factory, 0x08), [0x01, 0x08, 0x00]);
-    assert_eq!(body(&page_of("02 080701 080801 05 06"), &factory, 0x08), [0x05]);
+    let accepted = |saved, factory, code| {
+        let (number, body) = body(saved, factory, code);
+        assert_eq!(number, 0);
+        body
+    };
+    assert_eq!(accepted(&saved, &factory, 0x01), [0x00, 0x0E, 0x10, 0x00]);
+    assert_eq!(accepted(&saved, &factory, 0x07), [0x02]);
+    assert_eq!(accepted(&saved, &factory, 0x08), [0x07]);
+    assert_eq!(accepted(&blank, &factory, 0x01), [0x00, 0x01, 0xC2, 0x00]);
+    assert_eq!(accepted(&saved, &blank, 0x07), []);
+    assert_eq!(accepted(&saved, &factory, 0x02), []);
+    assert_eq!(accepted(&blank, &blank, 0xFF), []);
     // The part is one of the page itself.
-    assert!(std::ptr::eq(body(&saved, &factory, 0x08).as_ptr(), &saved[11]));
-    assert!(std::ptr::eq(body(&saved, &factory, 0x07).as_ptr(), &factory[14]));
+    assert!(std::ptr::eq(accepted(&saved, &factory, 0x08).as_ptr(), &saved[11]));
+    assert!(std::ptr::eq(accepted(&saved, &factory, 0x07).as_ptr(), &factory[14]));
+}
 
-    assert_eq!(read_values(&page_of("01 080402 0706")), Values::default());
-    assert_eq!(read_values(&page_of("01 080401 09")).gyroscope, Some(9));
-    assert!(!allowed_values(&read_values(&page_of("01 080401 09"))));
+/// A refused page gives its number and no values, though entries can be made out on it; and no body, neither as the saved
+/// nor as the factory page.
+#[test]
+fn refused_pages() {
+    let factory = factory_page();
+    for (text, expected) in [
+        ("01 080402 0706", 20),
+        ("01 080401 09", 20),
+        ("04 080401 07", 20),
+        ("00 080401 07", 20),
+        ("01 083F01", 20),
+        ("01 084000", 20),
+        ("01 08FFFF", 20),
+        ("02 080701 080801 05 06", 20),
+        ("02 080701 070801 05 02", 20),
+        ("03 010A04 070E01 080F01 0001C200 02 08", 20),
+        ("03 010A04 070E01 080F01 0001C200 02 03", 0),
+        ("01 080401 07", 0),
+    ] {
+        let page = page_of(text);
+        let (number, values) = read_page(&page);
+        assert_eq!(number, expected, "{text}");
+        assert_eq!(values == Values::default(), expected != 0, "{text}");
+        assert_eq!(body(&page, &factory, 0x08).0, expected, "{text}");
+        assert_eq!(body(&factory, &page, 0x08), (expected, if expected == 0 { &[3][..] } else { &[] }), "{text}");
+        for length in [0, 63, 65] {
+            let mut other = page.clone();
+            other.resize(length, 0xFF);
+            assert_eq!(read_page(&other), (19, Values::default()), "{text}");
+            // The saved page comes first.
+            assert_eq!(body(&other, &page, 0x08), (19, &[][..]), "{text}");
+            assert_eq!(body(&page, &other, 0x08).0, if expected == 0 { 19 } else { 20 }, "{text}");
+        }
+    }
 }

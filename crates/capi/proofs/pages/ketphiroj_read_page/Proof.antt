@@ -1,42 +1,25 @@
--- `capi::pages::ketphiroj_read_page` meets its contract: the values field by field.
-use Rattle.capi.proofs.Flats.{values-flat}
+-- `capi::pages::ketphiroj_read_page` meets its contract: the number of the page, or its values.
+use Rattle.capi.proofs.Flats.{page-refused, page-read}
 use borrow.Author.Needs.{needs}
 use Rattle.capi.proofs.pages.ketphiroj_read_page.Statement.{statement}
 use Rattle.capi.proofs.pages.ketphiroj_read_page.Tie as tie
 
-values-of-requires : tie.Need-values-of-requires
-values-of-requires c κs = search needs
+check-page-requires : tie.Need-check-page-requires
+check-page-requires c κs = search needs
 
-is-there-requires : tie.Need-is-there-requires
-is-there-requires c κs = search needs
-
-number-in-requires : tie.Need-number-in-requires
-number-in-requires c κs = search needs
-
-is-there-requires-2 : tie.Need-is-there-requires-2
-is-there-requires-2 c κs = search needs
-
-number-in-requires-2 : tie.Need-number-in-requires-2
-number-in-requires-2 c κs = search needs
-
-is-there-requires-3 : tie.Need-is-there-requires-3
-is-there-requires-3 c κs = search needs
-
-number-in-requires-3 : tie.Need-number-in-requires-3
-number-in-requires-3 c κs = search needs
+no-values-requires : tie.Need-no-values-requires
+no-values-requires c κs = search needs
 
 returns : tie.Need-returns
-returns c = search (values-flat, needs)
+returns c = search (page-refused, needs)
+
+flat-values-requires : tie.Need-flat-values-requires
+flat-values-requires c κs = search needs
+
+returns-2 : tie.Need-returns-2
+returns-2 c = search (page-read, needs)
 
 pub ketphiroj-read-page-spec : {M : Type 1} → statement M
 ketphiroj-read-page-spec =
     tie.close
-    (tie.spec
-    values-of-requires
-    is-there-requires
-    number-in-requires
-    is-there-requires-2
-    number-in-requires-2
-    is-there-requires-3
-    number-in-requires-3
-    returns)
+    (tie.spec check-page-requires no-values-requires returns flat-values-requires returns-2)

@@ -1,0 +1,42 @@
+-- `capi::pages::flat_values` meets its contract: the values field by field.
+use Rattle.capi.proofs.Flats.{values-flat}
+use borrow.Author.Needs.{needs}
+use Rattle.capi.proofs.pages.flat_values.Statement.{statement}
+use Rattle.capi.proofs.pages.flat_values.Tie as tie
+
+values-of-requires : tie.Need-values-of-requires
+values-of-requires c κs = search needs
+
+is-there-requires : tie.Need-is-there-requires
+is-there-requires c κs = search needs
+
+number-in-requires : tie.Need-number-in-requires
+number-in-requires c κs = search needs
+
+is-there-requires-2 : tie.Need-is-there-requires-2
+is-there-requires-2 c κs = search needs
+
+number-in-requires-2 : tie.Need-number-in-requires-2
+number-in-requires-2 c κs = search needs
+
+is-there-requires-3 : tie.Need-is-there-requires-3
+is-there-requires-3 c κs = search needs
+
+number-in-requires-3 : tie.Need-number-in-requires-3
+number-in-requires-3 c κs = search needs
+
+returns : tie.Need-returns
+returns c = search (values-flat, needs)
+
+pub flat-values-spec : {M : Type 1} → statement M
+flat-values-spec =
+    tie.close
+    (tie.spec
+    values-of-requires
+    is-there-requires
+    number-in-requires
+    is-there-requires-2
+    number-in-requires-2
+    is-there-requires-3
+    number-in-requires-3
+    returns)

@@ -1,0 +1,76 @@
+//! The wrapper's calls under test.
+
+use ketphiroj::{Board, Field, Outcome, Refusal, Reply, Values, PAGE};
+
+/// The wrapper's calls. An implementation changes some of them to plant a fault: the library's own calls are compared
+/// first, so a fault in those would never come as far as the wrapper's.
+pub trait Wrapper {
+    fn wrapped_start(&self, page: &[u8]) -> Result<Board, Refusal> {
+        Board::start(page)
+    }
+
+    fn wrapped_feed(
+        &self,
+        port: u8,
+        board: &mut Board,
+        chunk: &[u8],
+        room: &mut [u8],
+        page: &mut [u8],
+    ) -> Result<Outcome, Refusal> {
+        board.feed(port, chunk, room, page)
+    }
+
+    fn wrapped_check_message(&self, message: &[u8]) -> Result<(), Refusal> {
+        ketphiroj::check_message(message)
+    }
+
+    fn wrapped_write_message(&self, kind: u8, payload: &[u8], room: &mut [u8]) -> Result<usize, Refusal> {
+        ketphiroj::write_message(kind, payload, room)
+    }
+
+    fn wrapped_write_command(&self, code: u8, function: u8, value: u32, room: &mut [u8]) -> Result<usize, Refusal> {
+        ketphiroj::write_command(code, function, value, room)
+    }
+
+    fn wrapped_read_reply(&self, message: &[u8]) -> Result<Reply, Refusal> {
+        ketphiroj::read_reply(message)
+    }
+
+    fn wrapped_read_field(&self, message: &[u8], k: usize) -> Result<Field, Refusal> {
+        ketphiroj::read_field(message, k)
+    }
+
+    fn wrapped_field_data<'a>(&self, message: &'a [u8], k: usize) -> Result<&'a [u8], Refusal> {
+        ketphiroj::field_data(message, k)
+    }
+
+    fn wrapped_write_data(&self, axes: [[f32; 3]; 2], room: &mut [u8]) -> Result<usize, Refusal> {
+        let [acceleration, rate] = axes;
+        ketphiroj::write_data(acceleration, rate, room)
+    }
+
+    fn wrapped_write_data_bits(&self, bits: [[u32; 3]; 2], room: &mut [u8]) -> Result<usize, Refusal> {
+        let [acceleration, rate] = bits;
+        ketphiroj::write_data_bits(acceleration, rate, room)
+    }
+
+    fn wrapped_check_page(&self, page: &[u8]) -> Result<(), Refusal> {
+        ketphiroj::check_page(page)
+    }
+
+    fn wrapped_read_values(&self, page: &[u8]) -> Result<Values, Refusal> {
+        Values::read(page)
+    }
+
+    fn wrapped_write_values(&self, values: &Values, page: &mut [u8]) -> Result<(), Refusal> {
+        values.write(page)
+    }
+
+    fn wrapped_copy_body(&self, saved: &[u8], factory: &[u8], code: u8, room: &mut [u8]) -> Result<usize, Refusal> {
+        ketphiroj::copy_body(saved, factory, code, room)
+    }
+
+    fn wrapped_factory_page(&self) -> [u8; PAGE] {
+        ketphiroj::factory_page()
+    }
+}
