@@ -1,23 +1,15 @@
 -- What the command writer writes is obeyed by the call that handles a message.
-use Prim.Native.Nat.{ℕ, _≤_}
+use Prim.Native.Nat.{ℕ}
 use native.Mathlib.Omega.{arith}
-use mathlib.Core.Path.{_≡_, refl, sym, _∙_}
-use mathlib.Core.Bool.{Bool, true, false}
+use mathlib.Core.Path.{_≡_, refl, sym}
+use mathlib.Core.Bool.{true}
 use mathlib.Core.List.{List}
-use lib.Dec.{eqb}
-use lib.ListN.{length}
-use Rattle.page.specs.Sound.{sound, pageNumber}
 use Rattle.page.proofs.Pages.{sound-passes}
-use Rattle.message.specs.Whole.{wholeNumber}
-use Rattle.command.specs.declared.settings.Settings.{Settings}
-use Rattle.command.specs.Command.{commandOf}
-use Rattle.command.specs.Errors.{errorOf}
-use Rattle.command.specs.Effects.{effectOf}
-use Rattle.command.specs.Answer.{loadedFrom, answerWith, answering}
-use Rattle.command.specs.Handle.{settingsAllowed, replyRoom, handlingNumber, handlingOn, handling}
+use Rattle.command.specs.Answer.{loadedFrom, answering}
+use Rattle.command.specs.Handle.{handlingNumber, handling}
 use Rattle.command.proofs.Handles.{number-0}
-use Rattle.client.specs.Writer.{codeSubject, acceptable, commandMessage}
-use Rattle.client.specs.Theorems.{effectFor, Obeyed, CallObeys}
+use Rattle.client.specs.Writer.{commandMessage}
+use Rattle.client.specs.Theorems.{Obeyed, CallObeys}
 use Rattle.client.proofs.Obedience.{written-is-obeyed}
 
 pub call-obeys : CallObeys

@@ -1,7 +1,7 @@
 -- A field's data bytes are a part of the message; its code is kept; a record of proper axes is the one with its bits.
-use Prim.Native.Nat.{ℕ, zero, suc, _+_, _≤_}
+use Prim.Native.Nat.{ℕ, zero, suc, _+_}
 use native.Mathlib.Omega.{arith}
-use mathlib.Core.Path.{_≡_, refl, sym, ap, _∙_}
+use mathlib.Core.Path.{_≡_, refl, sym}
 use mathlib.Core.Bool.{Bool, true, false}
 use mathlib.Core.List.{List, [], _∷_, _++_, append-assoc}
 use mathlib.Core.Option.{Option, none, some}
@@ -13,11 +13,9 @@ use Rattle.message.specs.Message.{typeOf, lengthOf, payloadOf}
 use Rattle.message.specs.Whole.{wholeNumber}
 use Rattle.message.specs.Fields.{Field, fieldBytes, rowBytes, SizesRight, fieldsOf}
 use Rattle.message.proofs.FieldRows.{fields-fill}
-use Rattle.message.proofs.RoundTrips.{Passed, passed}
-use Rattle.sample.specs.declared.axes.Axes.{Axes}
-use Rattle.sample.specs.Axes.{restored}
-use Rattle.sample.specs.Reader.{sampleOn, sampleOf, codeOf, Found, fieldFrom, foundOn, someSizeWrong, sizesOn, fieldsOn, typeOn, wholeOn, Reading, readingOf}
-use Rattle.sample.specs.Theorems.{Proper, ProperAxes, RecordBack, CodeKept, PartOf, PartOfMessage}
+use Rattle.message.proofs.RoundTrips.{passed}
+use Rattle.sample.specs.Reader.{sampleOn, sampleOf, codeOf, Found, fieldFrom, foundOn, someSizeWrong, sizesOn, fieldsOn, typeOn, wholeOn, readingOf}
+use Rattle.sample.specs.Theorems.{RecordBack, CodeKept, PartOf, PartOfMessage}
 use Rattle.sample.proofs.Patterns.{axes-back}
 
 pub record-back : RecordBack

@@ -3,12 +3,10 @@ use Prim.Native.Nat.{ℕ, zero, suc, _+_}
 use mathlib.Core.Bool.{Bool, true, false, _&&_, _||_, not}
 use mathlib.Core.List.{List, [], _∷_}
 use mathlib.Core.Option.{Option, none, some}
-use lib.Dec.{eqb, ltb}
-use lib.ListN.{length}
+use lib.Dec.{eqb}
 use Rattle.message.specs.Message.{typeOf, payloadOf}
 use Rattle.message.specs.Whole.{wholeNumber}
 use Rattle.message.specs.Fields.{Field, fieldsOf}
-use Rattle.sample.specs.declared.axes.Axes.{Axes}
 use Rattle.sample.specs.declared.reader.Sample.{Sample}
 use Rattle.sample.specs.declared.reader.Sample.the-variants.{Acceleration, Rate, Unknown}
 use Rattle.sample.specs.declared.reader.FieldRead.{FieldRead}

@@ -12,7 +12,7 @@ use Rattle.stream.specs.declared.Verdict.the-variants.{Skip, Undecided, 
 use Rattle.stream.specs.declared.Sought.{Sought}
 use Rattle.stream.specs.declared.Sought.the-variants.{Starved, Found}
 use Rattle.stream.specs.Framing.{Framing}
-use Rattle.stream.specs.Scan.{messageAt, Event, skipped, reported, eventsPast, events}
+use Rattle.stream.specs.Scan.{messageAt, skipped, reported, eventsPast, events}
 use Rattle.stream.specs.Seek.{seekOn, seek, resume}
 use Rattle.stream.specs.Cutting.{skips, skipsThen, StarvedAt, Agrees, Cutting, FramingCuts}
 use Rattle.stream.proofs.Rests.{continues}

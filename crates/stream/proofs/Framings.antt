@@ -10,7 +10,7 @@ use lib.ListN.{length, take, length-append}
 use lib.Seq.{take-append-le}
 use Rattle.stream.specs.declared.Verdict.{Verdict}
 use Rattle.stream.specs.declared.Verdict.the-variants.{Skip, Undecided, Whole}
-use Rattle.stream.specs.Framing.{verdictOn, frontOn, frontBy, Framing}
+use Rattle.stream.specs.Framing.{verdictOn, frontBy, Framing}
 
 -- `peek` bytes decide the opening, and `head` bytes the size.
 pub record Header (opens : List ℕ → Bool) (size : List ℕ → ℕ) (mostHeld peek head : ℕ) : Type 0 where

@@ -1,13 +1,12 @@
 -- The laws of the seek, over any framing.
 use mathlib.Core.Path.{_≡_, refl, sym, ap, _∙_, subst}
-use mathlib.Core.Bool.{Bool, true, false}
+use mathlib.Core.Bool.{Bool}
 use mathlib.Core.List.{List, [], _∷_, _++_}
 use Prim.Native.Nat.{ℕ, zero, suc, _+_, _≤_, _<_}
 use native.Mathlib.Omega.{arith}
 use native.Mathlib.Nat.{suc-add, zero-add, add-suc, add-zero}
 use native.Mathlib.Numerals.{add-one}
 use lib.ListN.{length, drop}
-use lib.Seq.{drop-append-seam}
 use Rattle.stream.specs.declared.Verdict.{Verdict}
 use Rattle.stream.specs.declared.Verdict.the-variants.{Skip, Undecided, Whole}
 use Rattle.stream.specs.declared.Sought.{Sought}

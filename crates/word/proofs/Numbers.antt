@@ -1,10 +1,10 @@
 -- Big-endian numbers: the number of a few bytes, and both round trips.
-use Prim.Native.Nat.{ℕ, suc, _+_, _*_, _/_, _%_, _≤_, _<_}
+use Prim.Native.Nat.{ℕ, _/_, _%_, _≤_, _<_}
 use native.Mathlib.Omega.{arith}
-use mathlib.Core.Path.{_≡_, refl, _∙_}
+use mathlib.Core.Path.{_≡_, refl}
 use mathlib.Core.List.{List, [], _∷_}
 use lib.ListN.{length, getD, take}
-use Rattle.word.specs.Word.{numberFrom, number, word, wordBytes}
+use Rattle.word.specs.Word.{number, word, wordBytes}
 
 -- ---- by the number of bytes, from the bytes that were read
 
