@@ -9,7 +9,6 @@ use borrow.Author.Tests.{lt-ltb, le-ltb, eq-eqb, ne-eqb}
 use Rattle.page.specs.Sound.{pageNumber}
 use Rattle.message.specs.Whole.{wholeNumber}
 use Rattle.command.specs.declared.answer.Answer.{Answer}
-use Rattle.command.specs.declared.command.Command.{Command}
 use Rattle.command.specs.declared.handle.Handled.{Handled}
 use Rattle.command.specs.declared.settings.Settings.{Settings}
 use Rattle.command.specs.Command.{commandOf}
@@ -50,10 +49,10 @@ module _ (m : List ℕ) (w : Settings) (room page : List ℕ) (n : ℕ) (ns : n 
       go zero h = absurd (h refl)
       go (suc n) h = refl
 
-  pub handle-done : n ≡ 0 → (k : ℕ) → k ≡ wholeNumber m → (c : Command) → c ≡ commandOf (eqb k 0) m → (a : Answer) (after next : List ℕ)
-      → record { answer = a; room = after; page = next } ≡ answering c w room page
+  pub handle-done : n ≡ 0 → (k : ℕ) → k ≡ wholeNumber m → (a : Answer) (after next : List ℕ)
+      → record { answer = a; room = after; page = next } ≡ answering (commandOf (eqb k 0) m) w room page
       → record { answer = record { number = 0; error = a .error; saved = a .saved; length = a .length; settings = a .settings }; room = after; page = next } ≡ handling m w room page
   unfolding handling
-  handle-done z k ks c cs a after next h =
-      let q : record { answer = a; room = after; page = next } ≡ answering (commandOf (eqb (wholeNumber m) 0) m) w room page = rw (cs, ks) at h in
+  handle-done z k ks a after next h =
+      let q : record { answer = a; room = after; page = next } ≡ answering (commandOf (eqb (wholeNumber m) 0) m) w room page = rw ks at h in
       rw (← ns, z, ← q)

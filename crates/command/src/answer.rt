@@ -155,7 +155,7 @@ fn obey(c: Command, setting: Setting, w: Settings, room: &mut [u8], page: &mut [
 }
 
 // Answers a command: writes the reply to the front of `room` and, where a save is accepted, the page.
-pub(crate) fn answer_command(c: Command, w: Settings, room: &mut [u8], page: &mut [u8]) -> Answer
+fn answer_command(c: Command, w: Settings, room: &mut [u8], page: &mut [u8]) -> Answer
     ensures { λ r. ⌜ record { answer = r; room = now (room .exit); page = now (page .exit) } ≡ answering c w (now (room .entry)) (now (page .entry)) ⌝ }
 {
     let error = error_of(c);
@@ -170,7 +170,7 @@ pub(crate) fn answer_command(c: Command, w: Settings, room: &mut [u8], page: &mu
 }
 
 // Answers the message at the front of `held` and then `chunk`. The settings, the room and the page are taken as they are: a
-// feed has tested them. A message that is damaged or of another type is told by its type and its first payload byte alone, so
+// feed has tested them. A message that is damaged or of another type is answered by its type and first payload byte alone, so
 // that noise and data messages are answered without a look at the rest.
 pub fn answer_over(
     held: &[u8],

@@ -1,8 +1,7 @@
 // One message handled as a call of its own, with every argument tested.
 ghost use mathlib.Core.Path.{_≡_};
 ghost use Rattle.command.specs.Handle.{refusedHandled, handlingNumber, handling};
-use crate::answer::answer_command;
-use crate::command::command_over;
+use crate::answer::answer_over;
 use crate::settings::Settings;
 use crate::settings::settings_allowed;
 
@@ -61,8 +60,7 @@ pub fn handle_message(message: &[u8], w: Settings, room: &mut [u8], page: &mut [
         return refused(number, w);
     }
     let good = message::check_message(message) == 0;
-    let c = command_over(&message[..0], message, good);
-    let a = answer_command(c, w, room, page);
+    let a = answer_over(&message[..0], message, good, w, room, page);
     let settings = a.settings;
     Handled {
         number: 0,

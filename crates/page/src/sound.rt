@@ -11,7 +11,7 @@ use crate::setting::Setting;
 use crate::setting::allowed;
 
 // Whether the page is FF from `start` up to `end`. What differs from a blank page is gathered and tested once, so that there is
-// no branch for each byte.
+// no branch for each byte; against an array, since the compiler makes a slower test of a comparison with one byte.
 fn blank(page: &[u8], start: usize, end: usize) -> bool
     requires { ⌜ (end ≤ length (now page)) × (end ≤ 64) ⌝ }
     ensures { λ r. ⌜ r ≡ allBlank (slice start end (now (page .entry))) ⌝ }
@@ -41,7 +41,8 @@ fn size_where(right: bool, size: u8) -> u8
     if right { size } else { 0 }
 }
 
-// The size of the body under a code: 0 where the code is no setting's or the value is not allowed.
+// The size of the body under a code: 0 where the code is no setting's or the value is not allowed. Codes and sizes are spelled
+// out, so that each value is read with a fixed size.
 fn body_size(page: &[u8], code: u8, start: usize) -> u8
     requires { ⌜ (length (now page) ≡ 64) × (start ≤ 60) ⌝ }
     ensures { λ r. ⌜ r ≡ bodySize (now (page .entry)) code start ⌝ }

@@ -22,14 +22,11 @@ returns c = search (handle-refused, needs)
 check-message-requires : tie.Need-check-message-requires
 check-message-requires c κs = search needs
 
-slice-aggregate-command-over : tie.Need-slice-aggregate-command-over
-slice-aggregate-command-over c = search needs
+slice-aggregate-answer-over : tie.Need-slice-aggregate-answer-over
+slice-aggregate-answer-over c = search needs
 
-command-over-requires : tie.Need-command-over-requires
-command-over-requires c κs = search needs
-
-answer-command-requires : tie.Need-answer-command-requires
-answer-command-requires c κs = search needs
+answer-over-requires : tie.Need-answer-over-requires
+answer-over-requires c κs = search needs
 
 same-length-3 : tie.Need-same-length-3
 same-length-3 c = search needs
@@ -50,9 +47,8 @@ handle-message-spec =
     same-length-2
     returns
     check-message-requires
-    slice-aggregate-command-over
-    command-over-requires
-    answer-command-requires
+    slice-aggregate-answer-over
+    answer-over-requires
     same-length-3
     same-length-4
     returns-2)
