@@ -1,6 +1,7 @@
 pub mod FieldRows
 pub mod Framed
 pub mod Fronts
+pub mod Openings
 pub mod Reports
 pub mod RoundTrips
 pub mod Sums

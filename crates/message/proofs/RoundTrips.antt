@@ -18,7 +18,7 @@ use Rattle.message.specs.Front.{opens, sizeOf, front}
 use Rattle.message.specs.Whole.{wholeNumber}
 use Rattle.message.specs.Theorems.{RoundTrip, WrittenIsRead, ReadIsWritten}
 use Rattle.message.proofs.Framed.{cutting-harmless}
-use Rattle.message.proofs.Fronts.{front-whole}
+use Rattle.message.proofs.Openings.{front-whole}
 use Rattle.message.proofs.Wholes.{whole-right}
 use Rattle.message.proofs.Writes.{message-length}
 

@@ -11,11 +11,13 @@ use Rattle.stream.specs.declared.Sought.the-variants.{Starved, Found}
 use Rattle.stream.specs.declared.Verdict.{Verdict}
 use Rattle.stream.specs.declared.Verdict.the-variants.{Skip, Undecided, Whole}
 use Rattle.stream.specs.Seek.{beyond, seek}
-use Rattle.message.specs.Message.{sumsRight}
+use Rattle.message.specs.declared.header.Opening.{Opening}
+use Rattle.message.specs.declared.header.Opening.the-variants.{Complete}
 use Rattle.message.specs.Front.{front}
+use Rattle.message.specs.Header.{openingOf}
 use Rattle.message.specs.declared.fletcher.Sums.{Sums}
 use Rattle.message.specs.Fletcher.{noSums, sumsFrom, sums}
-use Rattle.message.proofs.Fronts.{front-skip, front-one, front-skip-two, front-few, front-unready, front-ready}
+use Rattle.message.proofs.Fronts.{complete-within}
 use Rattle.message.proofs.Sums.{sums-append}
 
 module _ (held chunk : List ℕ) where
@@ -61,32 +63,18 @@ module _ (held chunk : List ℕ) where
   pub front-chunk : (at : ℕ) (d : Verdict) → length held ≤ at → d ≡ front (drop (at - length held) chunk) → d ≡ front (drop at (held ++ chunk))
   front-chunk at d h e = e ∙ ap front (drop-chunk at h)
 
-  -- The verdict at a place that is held, whose first byte is read there. What comes after may lie in the chunk.
-  module _ (at : ℕ) (h : at < length held) where
-    there : at < length (held ++ chunk)
-    there = rw length-append (omega arith)
+  -- From a place that is held on: the rest of the held bytes, then the chunk.
+  pub opening-held : (at : ℕ) (o : Opening) → at < length held → o ≡ openingOf (take (length held - at) (drop at held) ++ chunk) → o ≡ openingOf (drop at (held ++ chunk))
+  opening-held at o h is =
+      let all : take (length held - at) (drop at held) ≡ drop at held = take-all (length held - at) (drop at held) (rw length-drop (omega arith)) in
+      rw (drop-append-le at held chunk (omega arith)) (rw all at is)
 
-    pub held-skip : (getD held at 0 ≡ 0xA5 → ⊥) → Skip ≡ front (drop at (held ++ chunk))
-    held-skip = front-skip (held ++ chunk) at (getD held at 0) (byte-held at h) there
-
-    module _ (e : getD held at 0 ≡ 0xA5) where
-      pub held-one : length held + length chunk - at < 2 → Undecided ≡ front (drop at (held ++ chunk))
-      held-one k = front-one (held ++ chunk) at (getD held at 0) (byte-held at h) there e (rw length-append k)
-
-      module _ (y : ℕ) (q : y ≡ getD (held ++ chunk) (at + 1) 0) (two : 2 ≤ length held + length chunk - at) where
-        pub held-skip-two : (y ≡ 0xA5 → ⊥) → Skip ≡ front (drop at (held ++ chunk))
-        held-skip-two = front-skip-two (held ++ chunk) at (getD held at 0) (byte-held at h) y q (rw length-append two) e
-
-        module _ (f : y ≡ 0xA5) where
-          pub held-few : length held + length chunk - at < 4 → Undecided ≡ front (drop at (held ++ chunk))
-          held-few k = front-few (held ++ chunk) at (getD held at 0) (byte-held at h) y q (rw length-append two) e f (rw length-append k)
-
-          module _ (z : ℕ) (r : z ≡ getD (held ++ chunk) (at + 3) 0) (n : ℕ) (t : n ≡ z % 256 + 6) where
-            pub held-unready : length held + length chunk - at < n → Undecided ≡ front (drop at (held ++ chunk))
-            held-unready k = front-unready (held ++ chunk) at (getD held at 0) (byte-held at h) y q (rw length-append two) e f z r n t (rw length-append k)
-
-            pub held-ready : n ≤ length held + length chunk - at → (good : Bool) → good ≡ sumsRight (take n (drop at (held ++ chunk))) → Whole n good ≡ front (drop at (held ++ chunk))
-            held-ready k = front-ready (held ++ chunk) at (getD held at 0) (byte-held at h) y q (rw length-append two) e f z r n t (rw length-append k)
+  pub complete-over : (at : ℕ) (o : Opening) → at < length held → o ≡ openingOf (drop at (held ++ chunk)) → (n : ℕ) → o ≡ Complete n
+      → (2 ≤ n) × (at ≤ length held) × (at + n ≤ length held + length chunk)
+  complete-over at o h is n e =
+      let s = complete-within (held ++ chunk) at o is n e (rw length-append (omega arith)) in
+      let l : length (held ++ chunk) ≡ length held + length chunk = length-append held chunk in
+      omega arith
 
   -- The seek that goes on in the chunk.
   pub seek-chunk : (at : ℕ) (r : Sought) → at ≤ length held → length held ≤ at → seek front (held ++ chunk) ≡ beyond at (seek front (drop at (held ++ chunk)))

@@ -1,20 +1,15 @@
 // The verdict at the front of unread bytes, and the seek for the next message, in one slice.
 ghost use mathlib.Core.Path.{_≡_};
-ghost use Prim.Native.Nat.{_+_, _%_, _≤_};
+ghost use Prim.Native.Nat.{_+_, _≤_};
 ghost use lib.ListN.{length, take, drop};
 ghost use Rattle.stream.specs.Seek.{beyond, seek};
 ghost use Rattle.message.specs.Message.{sumsRight};
 ghost use Rattle.message.specs.Front.{front};
 use crate::fletcher::Sums;
+use crate::header::Opening;
+use crate::header::opening_over;
 use stream::Sought;
 use stream::Verdict;
-
-// L + 6, the size of a message with the length byte `l`.
-pub(crate) fn size_from(l: u8) -> usize
-    ensures { λ r. ⌜ r ≡ l % 256 + 6 ⌝ }
-{
-    l as usize + 6
-}
 
 // Whether the last two of the `n` bytes from `at` are the sums of those before them.
 pub(crate) fn sums_right(s: &[u8], at: usize, n: usize) -> bool
@@ -37,24 +32,12 @@ pub fn front_at(s: &[u8], at: usize) -> Verdict
     if s.len() <= at {
         return Verdict::Undecided;
     }
-    let left = s.len() - at;
-    if s[at] != 0xA5 {
-        return Verdict::Skip;
+    let u = &s[at..];
+    match opening_over(u, &u[0..0]) {
+        Opening::Shut => Verdict::Skip,
+        Opening::Short => Verdict::Undecided,
+        Opening::Complete(n) => Verdict::Whole(n, sums_right(s, at, n)),
     }
-    if left < 2 {
-        return Verdict::Undecided;
-    }
-    if s[at + 1] != 0xA5 {
-        return Verdict::Skip;
-    }
-    if left < 4 {
-        return Verdict::Undecided;
-    }
-    let n = size_from(s[at + 3]);
-    if left < n {
-        return Verdict::Undecided;
-    }
-    Verdict::Whole(n, sums_right(s, at, n))
 }
 
 // The next A5 from `from` on, or the end: what stands before it is skipped. It is a loop of its own, since noise is passed over

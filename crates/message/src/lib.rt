@@ -3,6 +3,7 @@
 mod bytes;
 mod fletcher;
 mod front;
+mod header;
 mod whole;
 mod window;
 mod write;
@@ -11,8 +12,8 @@ pub use bytes::write_bytes;
 pub use fletcher::Sums;
 pub use front::front_at;
 pub use front::seek;
+pub use header::byte_over;
 pub use whole::check_message;
-pub use window::byte_over;
 pub use window::front_over;
 pub use window::seek_held;
 pub use window::seek_over;

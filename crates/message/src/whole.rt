@@ -1,8 +1,8 @@
 // The test of one whole message, for the readers.
 ghost use mathlib.Core.Path.{_≡_};
 ghost use Rattle.message.specs.Whole.{wholeNumber};
-use crate::front::size_from;
 use crate::front::sums_right;
+use crate::header::size_from;
 
 // 0 where `m` is one whole message with right sums; else document 01's number, 21 or 22.
 pub fn check_message(m: &[u8]) -> u8

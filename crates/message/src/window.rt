@@ -1,8 +1,8 @@
-// The same over bytes that are held and then a chunk, which are never copied together.
+// The verdict and the seek over bytes that are held and then a chunk, as one row of bytes that are never copied together.
 ghost use mathlib.Core.Path.{_≡_};
 ghost use mathlib.Core.List.{_++_};
 ghost use Prim.Native.Nat.{_+_, _-_, _≤_, _<_};
-ghost use lib.ListN.{length, take, drop, getD};
+ghost use lib.ListN.{length, take, drop};
 ghost use Rattle.stream.specs.Seek.{beyond, seek};
 ghost use Rattle.message.specs.Fletcher.{sums};
 ghost use Rattle.message.specs.Message.{sumsRight};
@@ -10,21 +10,11 @@ ghost use Rattle.message.specs.Front.{front};
 use crate::fletcher::Sums;
 use crate::front::front_at;
 use crate::front::seek;
-use crate::front::size_from;
+use crate::header::Opening;
+use crate::header::byte_over;
+use crate::header::opening_over;
 use stream::Sought;
 use stream::Verdict;
-
-// Byte `i` of `held` and then `chunk`, 0 where there is none.
-pub fn byte_over(held: &[u8], chunk: &[u8], i: usize) -> u8
-    ensures { λ r. ⌜ r ≡ getD (now (held .entry) ++ now (chunk .entry)) i 0 ⌝ }
-{
-    let h = held.len();
-    if i < h {
-        return held[i];
-    }
-    let j = i - h;
-    if j < chunk.len() { chunk[j] } else { 0 }
-}
 
 // The sums of the bytes from..to, which begin among the held bytes or right behind them.
 fn sums_over(held: &[u8], chunk: &[u8], from: usize, to: usize) -> Sums
@@ -39,6 +29,7 @@ fn sums_over(held: &[u8], chunk: &[u8], from: usize, to: usize) -> Sums
     Sums::new().over(&held[from..]).over(&chunk[0..rest])
 }
 
+// Whether the last two of the `n` bytes from `at` are the sums of those before them.
 fn right_over(held: &[u8], chunk: &[u8], at: usize, n: usize) -> bool
     requires { ⌜ (2 ≤ n) × (at ≤ length (now held)) × (at + n ≤ length (now held) + length (now chunk)) ⌝ }
     ensures { λ r. ⌜ r ≡ sumsRight (take n (drop at (now (held .entry) ++ now (chunk .entry)))) ⌝ }
@@ -60,24 +51,11 @@ pub fn front_over(held: &[u8], chunk: &[u8], at: usize) -> Verdict
     if h <= at {
         return front_at(chunk, at - h);
     }
-    let left = h + chunk.len() - at;
-    if held[at] != 0xA5 {
-        return Verdict::Skip;
+    match opening_over(&held[at..], chunk) {
+        Opening::Shut => Verdict::Skip,
+        Opening::Short => Verdict::Undecided,
+        Opening::Complete(n) => Verdict::Whole(n, right_over(held, chunk, at, n)),
     }
-    if left < 2 {
-        return Verdict::Undecided;
-    }
-    if byte_over(held, chunk, at + 1) != 0xA5 {
-        return Verdict::Skip;
-    }
-    if left < 4 {
-        return Verdict::Undecided;
-    }
-    let n = size_from(byte_over(held, chunk, at + 3));
-    if left < n {
-        return Verdict::Undecided;
-    }
-    Verdict::Whole(n, right_over(held, chunk, at, n))
 }
 
 // Where the seek through `chunk` ends, as a place of some `before` bytes and then `chunk`.
@@ -113,7 +91,7 @@ pub fn seek_over(held: &[u8], chunk: &[u8]) -> Sought
     seek_after(h, chunk)
 }
 
-// The same where the held bytes are the first `held` of an array: all of it where it has fewer.
+// Where the seek ends through the first `held` of `bytes`, all of them where there are fewer, and then `chunk`.
 pub fn seek_held(bytes: &[u8], held: usize, chunk: &[u8]) -> Sought
     ensures { λ r. ⌜ r ≡ seek front (take held (now (bytes .entry)) ++ now (chunk .entry)) ⌝ }
 {

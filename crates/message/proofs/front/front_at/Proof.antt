@@ -1,5 +1,6 @@
--- `message::front::front_at` meets its contract: each `return` is a case of the verdict.
-use Rattle.message.proofs.Fronts.{front-none, front-skip-here, front-one, front-skip-two-here, front-few, front-unready, front-ready}
+-- `message::front::front_at` meets its contract: each verdict is that of what the first bytes tell.
+use Rattle.message.proofs.Openings.{front-shut, front-short, front-complete}
+use Rattle.message.proofs.Fronts.{front-none, opening-here, complete-within}
 use borrow.Author.Needs.{needs}
 use Rattle.message.proofs.front.front_at.Statement.{statement}
 use Rattle.message.proofs.front.front_at.Tie as tie
@@ -7,64 +8,69 @@ use Rattle.message.proofs.front.front_at.Tie as tie
 returns : tie.Need-returns
 returns c = search (front-none, needs)
 
-sub-left : tie.Need-sub-left
-sub-left c = search needs
+sub-u : tie.Need-sub-u
+sub-u c = search needs
 
-shared-slice-read-if2 : tie.Need-shared-slice-read-if2
-shared-slice-read-if2 c = search needs
+part-u-start : tie.Need-part-u-start
+part-u-start c = search needs
 
-returns-2 : tie.Need-returns-2
-returns-2 c = search (front-skip-here, needs)
+part-u-end : tie.Need-part-u-end
+part-u-end c = search needs
 
-returns-3 : tie.Need-returns-3
-returns-3 c = search (front-one, needs)
+sub-opening-over : tie.Need-sub-opening-over
+sub-opening-over c = search needs
 
-add-if4 : tie.Need-add-if4
-add-if4 c = search needs
+part-opening-over-start : tie.Need-part-opening-over-start
+part-opening-over-start c = search needs
 
-shared-slice-read-if4 : tie.Need-shared-slice-read-if4
-shared-slice-read-if4 c = search needs
+part-opening-over-end : tie.Need-part-opening-over-end
+part-opening-over-end c = search needs
 
-returns-4 : tie.Need-returns-4
-returns-4 c = search (front-skip-two-here, needs)
+opening-over-requires : tie.Need-opening-over-requires
+opening-over-requires c κs = search needs
 
-returns-5 : tie.Need-returns-5
-returns-5 c = search (front-few, needs)
+enum-told : tie.Need-enum-told
+enum-told c = search needs
 
-add-size-from : tie.Need-add-size-from
-add-size-from c = search needs
+enum-told-2 : tie.Need-enum-told-2
+enum-told-2 c = search needs
 
-shared-slice-read-size-from : tie.Need-shared-slice-read-size-from
-shared-slice-read-size-from c = search needs
-
-size-from-requires : tie.Need-size-from-requires
-size-from-requires c κs = search needs
-
-returns-6 : tie.Need-returns-6
-returns-6 c = search (front-unready, needs)
+enum-known-n : tie.Need-enum-known-n
+enum-known-n c = search needs
 
 sums-right-requires : tie.Need-sums-right-requires
-sums-right-requires c κs = search needs
+sums-right-requires c κs =
+    let found = c .before .before .before in
+    let start = found .before .before .before .before .before in
+    let s = start .args .s .now in
+    let at = start .args .at in
+    complete-within s at _ (opening-here s at _ (found .opening-over .ensures)) _ (c .before .n .given .1) (found .before .before .before .if1 .left)
 
-returns-7 : tie.Need-returns-7
-returns-7 c = search (front-ready, needs)
+returns-2 : tie.Need-returns-2
+returns-2 c = search (front-shut, opening-here, needs)
+
+returns-3 : tie.Need-returns-3
+returns-3 c = search (front-short, opening-here, needs)
+
+returns-4 : tie.Need-returns-4
+returns-4 c = search (front-complete, opening-here, needs)
 
 pub front-at-spec : {M : Type 1} → statement M
 front-at-spec =
     tie.close
     (tie.spec
     returns
-    sub-left
-    shared-slice-read-if2
+    sub-u
+    part-u-start
+    part-u-end
+    sub-opening-over
+    part-opening-over-start
+    part-opening-over-end
+    opening-over-requires
+    enum-told
+    enum-told-2
+    enum-known-n
+    sums-right-requires
     returns-2
     returns-3
-    add-if4
-    shared-slice-read-if4
-    returns-4
-    returns-5
-    add-size-from
-    shared-slice-read-size-from
-    size-from-requires
-    returns-6
-    sums-right-requires
-    returns-7)
+    returns-4)

@@ -1,5 +1,6 @@
--- `message::window::front_over` meets its contract: each `return` is a case of the verdict.
-use Rattle.message.proofs.Windows.{front-chunk, held-skip, held-one, held-skip-two, held-few, held-unready, held-ready}
+-- `message::window::front_over` meets its contract: each verdict is that of what the first bytes tell.
+use Rattle.message.proofs.Openings.{front-shut, front-short, front-complete}
+use Rattle.message.proofs.Windows.{front-chunk, opening-held, complete-over}
 use borrow.Author.Needs.{needs}
 use Rattle.message.proofs.window.front_over.Statement.{statement}
 use Rattle.message.proofs.window.front_over.Tie as tie
@@ -10,50 +11,45 @@ front-at-requires c κs = search needs
 returns : tie.Need-returns
 returns c = search (front-chunk, needs)
 
-add-left : tie.Need-add-left
-add-left c = search needs
+sub-opening-over : tie.Need-sub-opening-over
+sub-opening-over c = search needs
 
-sub-left : tie.Need-sub-left
-sub-left c = search needs
+part-opening-over-start : tie.Need-part-opening-over-start
+part-opening-over-start c = search needs
 
-shared-slice-read-if2 : tie.Need-shared-slice-read-if2
-shared-slice-read-if2 c = search needs
+part-opening-over-end : tie.Need-part-opening-over-end
+part-opening-over-end c = search needs
 
-returns-2 : tie.Need-returns-2
-returns-2 c = search (held-skip, needs)
+opening-over-requires : tie.Need-opening-over-requires
+opening-over-requires c κs = search needs
 
-returns-3 : tie.Need-returns-3
-returns-3 c = search (held-one, needs)
+enum-told : tie.Need-enum-told
+enum-told c = search needs
 
-add-byte-over : tie.Need-add-byte-over
-add-byte-over c = search needs
+enum-told-2 : tie.Need-enum-told-2
+enum-told-2 c = search needs
 
-byte-over-requires : tie.Need-byte-over-requires
-byte-over-requires c κs = search needs
-
-returns-4 : tie.Need-returns-4
-returns-4 c = search (held-skip-two, needs)
-
-returns-5 : tie.Need-returns-5
-returns-5 c = search (held-few, needs)
-
-add-byte-over-2 : tie.Need-add-byte-over-2
-add-byte-over-2 c = search needs
-
-byte-over-requires-2 : tie.Need-byte-over-requires-2
-byte-over-requires-2 c κs = search needs
-
-size-from-requires : tie.Need-size-from-requires
-size-from-requires c κs = search needs
-
-returns-6 : tie.Need-returns-6
-returns-6 c = search (held-unready, needs)
+enum-known-n : tie.Need-enum-known-n
+enum-known-n c = search needs
 
 right-over-requires : tie.Need-right-over-requires
-right-over-requires c κs = search needs
+right-over-requires c κs =
+    let found = c .before .before .before in
+    let start = found .before .before .before .before .before in
+    let held = start .args .held .now in
+    let chunk = start .args .chunk .now in
+    let at = start .args .at in
+    let h = found .before .before .if1 .left in
+    complete-over held chunk at _ h (opening-held held chunk at _ h (found .opening-over .ensures)) _ (c .before .n .given .1)
 
-returns-7 : tie.Need-returns-7
-returns-7 c = search (held-ready, needs)
+returns-2 : tie.Need-returns-2
+returns-2 c = search (front-shut, opening-held, needs)
+
+returns-3 : tie.Need-returns-3
+returns-3 c = search (front-short, opening-held, needs)
+
+returns-4 : tie.Need-returns-4
+returns-4 c = search (front-complete, opening-held, needs)
 
 pub front-over-spec : {M : Type 1} → statement M
 front-over-spec =
@@ -61,18 +57,14 @@ front-over-spec =
     (tie.spec
     front-at-requires
     returns
-    add-left
-    sub-left
-    shared-slice-read-if2
+    sub-opening-over
+    part-opening-over-start
+    part-opening-over-end
+    opening-over-requires
+    enum-told
+    enum-told-2
+    enum-known-n
+    right-over-requires
     returns-2
     returns-3
-    add-byte-over
-    byte-over-requires
-    returns-4
-    returns-5
-    add-byte-over-2
-    byte-over-requires-2
-    size-from-requires
-    returns-6
-    right-over-requires
-    returns-7)
+    returns-4)

@@ -1,8 +1,8 @@
--- `message::window::byte_over` meets its contract.
+-- `message::header::byte_over` meets its contract.
 use Rattle.message.proofs.Windows.{byte-held, byte-chunk, byte-none}
 use borrow.Author.Needs.{needs}
-use Rattle.message.proofs.window.byte_over.Statement.{statement}
-use Rattle.message.proofs.window.byte_over.Tie as tie
+use Rattle.message.proofs.header.byte_over.Statement.{statement}
+use Rattle.message.proofs.header.byte_over.Tie as tie
 
 shared-slice-read-result : tie.Need-shared-slice-read-result
 shared-slice-read-result c = search needs

@@ -1,0 +1,140 @@
+-- What the first bytes tell, case by case from the bytes that were read; and what stands at a front of which that is known.
+use Prim.Native.Nat.{ℕ, _+_, _%_, _≤_, _<_}
+use native.Mathlib.Omega.{arith}
+use mathlib.Core.Path.{_≡_, refl, ap, sym, _∙_}
+use mathlib.Core.Bool.{Bool, true, false, _&&_}
+use mathlib.Core.List.{List, [], _∷_, _++_}
+use lib.Dec.{eqb, leb}
+use lib.ListN.{length, take, getD, length-append}
+use borrow.Author.Tests.{eq-eqb, ne-eqb, le-leb, lt-leb, leb-true}
+use Rattle.stream.specs.declared.Verdict.{Verdict}
+use Rattle.stream.specs.declared.Verdict.the-variants.{Skip, Undecided, Whole}
+use Rattle.message.specs.declared.header.Opening.{Opening}
+use Rattle.message.specs.declared.header.Opening.the-variants.{Shut, Short, Complete}
+use Rattle.message.specs.Message.{sumsRight}
+use Rattle.message.specs.Front.{opens, sizeOf, front}
+use Rattle.message.specs.Header.{openingOf}
+
+-- ---- the opening test by the bytes, 0 for one that is not there
+
+opens-one : (u : List ℕ) → 1 ≤ length u → length u < 2 → getD u 0 0 ≡ 0xA5 → opens u ≡ true
+opens-one [] h k e = absurd (omega arith)
+opens-one (x ∷ []) h k e = rw (eq-eqb x 0xA5 e)
+opens-one (x ∷ y ∷ u) h k e = absurd (omega arith)
+
+pub opens-first : (u : List ℕ) → 1 ≤ length u → (getD u 0 0 ≡ 0xA5 → ⊥) → opens u ≡ false
+opens-first [] h n = absurd (omega arith)
+opens-first (x ∷ u) h n = rw (ne-eqb x 0xA5 n)
+
+opens-bytes : (u : List ℕ) → 2 ≤ length u → opens u ≡ eqb (getD u 0 0) 0xA5 && eqb (getD u 1 0) 0xA5
+opens-bytes [] h = absurd (omega arith)
+opens-bytes (x ∷ []) h = absurd (omega arith)
+opens-bytes (x ∷ y ∷ u) h = refl
+
+-- ---- the opening
+
+module _ (u : List ℕ) where
+  opening-shut : opens u ≡ false → Shut ≡ openingOf u
+  unfolding openingOf
+  opening-shut e = rw e
+
+  opening-short : opens u ≡ true → length u < sizeOf u → Short ≡ openingOf u
+  unfolding openingOf
+  opening-short e h = rw (e, lt-leb (sizeOf u) (length u) h)
+
+  opening-complete : opens u ≡ true → sizeOf u ≤ length u → Complete (sizeOf u) ≡ openingOf u
+  unfolding openingOf
+  opening-complete e h = rw (e, le-leb (sizeOf u) (length u) h)
+
+-- By the bytes x, y and z that were read as the first, the second and the fourth of held bytes and then a chunk.
+module _ (held chunk : List ℕ) where
+  long : length (held ++ chunk) ≡ length held + length chunk
+  long = length-append held chunk
+
+  pub told-none : length held + length chunk ≡ 0 → Short ≡ openingOf (held ++ chunk)
+  told-none h = none (held ++ chunk) (long ∙ h)
+    where
+      none : (u : List ℕ) → length u ≡ 0 → Short ≡ openingOf u
+      none [] l = opening-short [] refl (omega arith)
+      none (x ∷ u) l = absurd (omega arith)
+
+  module _ (some : length held + length chunk ≡ 0 → ⊥) (x : ℕ) (p : x ≡ getD (held ++ chunk) 0 0) where
+    there : 1 ≤ length (held ++ chunk)
+    there = rw long (omega arith)
+
+    pub told-first : (x ≡ 0xA5 → ⊥) → Shut ≡ openingOf (held ++ chunk)
+    told-first n = opening-shut (held ++ chunk) (opens-first (held ++ chunk) there (rw p at n))
+
+    module _ (e : x ≡ 0xA5) where
+      pub told-one : length held + length chunk < 2 → Short ≡ openingOf (held ++ chunk)
+      told-one k = opening-short (held ++ chunk) (opens-one (held ++ chunk) there (rw long k) (sym p ∙ e)) (rw long (omega arith))
+
+      module _ (two : 2 ≤ length held + length chunk) (y : ℕ) (q : y ≡ getD (held ++ chunk) 1 0) where
+        pub told-second : (y ≡ 0xA5 → ⊥) → Shut ≡ openingOf (held ++ chunk)
+        told-second n =
+            opening-shut (held ++ chunk) (opens-bytes (held ++ chunk) (rw long two) ∙ rw (← p, ← q, eq-eqb _ _ e, ne-eqb _ _ n))
+
+        module _ (f : y ≡ 0xA5) (z : ℕ) (r : z ≡ getD (held ++ chunk) 3 0) (n : ℕ) (t : n ≡ z % 256 + 6) where
+          open-told : opens (held ++ chunk) ≡ true
+          open-told = opens-bytes (held ++ chunk) (rw long two) ∙ rw (← p, ← q, eq-eqb _ _ e, eq-eqb _ _ f)
+
+          size-told : sizeOf (held ++ chunk) ≡ n
+          size-told = rw (t, r)
+
+          pub told-short : length held + length chunk < n → Short ≡ openingOf (held ++ chunk)
+          told-short k = opening-short (held ++ chunk) open-told (rw (size-told, long) k)
+
+          pub told-complete : n ≤ length held + length chunk → Complete n ≡ openingOf (held ++ chunk)
+          told-complete k = rw size-told at (opening-complete (held ++ chunk) open-told (rw (size-told, long) k))
+
+-- ---- the front by the opening
+
+pub front-skip : (u : List ℕ) → opens u ≡ false → Skip ≡ front u
+unfolding front
+front-skip u e = rw e
+
+pub front-whole : (u : List ℕ) → opens u ≡ true → sizeOf u ≤ length u → Whole (sizeOf u) (sumsRight (take (sizeOf u) u)) ≡ front u
+unfolding front
+front-whole u e h = rw (e, le-leb (sizeOf u) (length u) h)
+
+module _ (u : List ℕ) (o : Opening) (is : o ≡ openingOf u) where
+  pub front-shut : o ≡ Shut → Skip ≡ front u
+  unfolding front openingOf
+  front-shut e = go (opens u) refl (leb (sizeOf u) (length u)) refl
+    where
+      go : (b : Bool) → opens u ≡ b → (c : Bool) → leb (sizeOf u) (length u) ≡ c → Skip ≡ front u
+      go false p c q = rw p
+      go true p true q = cc
+      go true p false q = cc
+
+  pub front-short : o ≡ Short → Undecided ≡ front u
+  unfolding front openingOf
+  front-short e = go (opens u) refl (leb (sizeOf u) (length u)) refl
+    where
+      go : (b : Bool) → opens u ≡ b → (c : Bool) → leb (sizeOf u) (length u) ≡ c → Undecided ≡ front u
+      go false p c q = cc
+      go true p true q = cc
+      go true p false q = cc
+
+  -- A message whose bytes are all there.
+  pub record IsComplete (n : ℕ) : Type 0 where
+    pub opening : opens u ≡ true
+    pub sized : n ≡ sizeOf u
+    pub inside : sizeOf u ≤ length u
+
+  pub complete : (n : ℕ) → o ≡ Complete n → IsComplete n
+  unfolding openingOf
+  complete n e = go (opens u) refl (leb (sizeOf u) (length u)) refl
+    where
+      go : (b : Bool) → opens u ≡ b → (c : Bool) → leb (sizeOf u) (length u) ≡ c → IsComplete n
+      go true p true q = record { opening = p; sized = cc; inside = leb-true (sizeOf u) (length u) q }
+      go true p false q = let z : _≡_ {A = ℕ} 0 1 = cc in absurd (omega arith)
+      go false p c q = let z : _≡_ {A = ℕ} 0 1 = cc in absurd (omega arith)
+
+  pub complete-sized : (n : ℕ) → o ≡ Complete n → (2 ≤ n) × (n ≤ length u)
+  complete-sized n e = let c = complete n e in omega arith
+
+  pub front-complete : (n : ℕ) → o ≡ Complete n → (good : Bool) → good ≡ sumsRight (take n u) → Whole n good ≡ front u
+  front-complete n e good g =
+      let c = complete n e in
+      rw (g, c .sized) (front-whole u (c .opening) (c .inside))
