@@ -78,13 +78,8 @@ samples =
     ∷ record { chunks = p6 ∷ []; outs = done 8 1 pinged6 ∷ []; held = 0xA5 ∷ 0x01 ∷ 0x02 ∷ 0x02 ∷ 0x00 ∷ 0x4F ∷ 0x24 ∷ []; page = blankPage }
     -- P6 and an empty feed
     ∷ record { chunks = p6 ∷ [] ∷ []; outs = done 8 1 pinged6 ∷ ends 0 7 ∷ []; held = []; page = blankPage }
-    -- P7
-    ∷ record {
-      chunks = (0xA5 ∷ ping) ∷ (0x4F ∷ 0x25 ∷ []) ∷ [];
-      outs = done 7 1 (0xA5 ∷ 0xA5 ∷ 0xA5 ∷ 0x04 ∷ 0x80 ∷ 0x02 ∷ 0x02 ∷ 0x01 ∷ 0x78 ∷ 0xA8 ∷ []) ∷ done 2 0 pinged ∷ [];
-      held = [];
-      page = blankPage;
-    }
+    -- P7, as request 01 has it
+    ∷ record { chunks = (0xA5 ∷ ping) ∷ []; outs = done 9 1 pinged ∷ []; held = []; page = blankPage }
     -- P8
     ∷ record {
       chunks = (0xA5 ∷ 0xA5 ∷ 0x02 ∷ 0x03 ∷ 0x01 ∷ 0x01 ∷ 0x03 ∷ 0x54 ∷ 0x7F ∷ []) ∷ [];

@@ -1,11 +1,11 @@
 -- MS CIP is a framing, so cutting its stream is harmless.
 use mathlib.Core.Path.{_≡_, refl, sym, _∙_}
-use mathlib.Core.Bool.{Bool, true, false, _&&_}
+use mathlib.Core.Bool.{Bool, true, false, not, _&&_}
 use mathlib.Core.List.{List, [], _∷_, _++_}
 use Prim.Native.Nat.{ℕ, _+_, _≤_}
 use native.Mathlib.Omega.{arith}
 use lib.Dec.{eqb}
-use lib.ListN.{length, List·getD-append}
+use lib.ListN.{length, drop, List·getD-append}
 use Rattle.stream.specs.declared.Sought.{Sought}
 use Rattle.stream.specs.declared.Sought.the-variants.{Starved, Found}
 use Rattle.stream.specs.declared.Verdict.the-variants.{Whole}
@@ -14,32 +14,38 @@ use Rattle.stream.specs.Seek.{seek}
 use Rattle.stream.proofs.Framings.{Header, framing, IsWhole, is-whole}
 use Rattle.stream.proofs.Cuts.{cutting, starved-is}
 use Rattle.message.specs.Message.{sumsRight}
-use Rattle.message.specs.Front.{marked, opens, sizeOf, front, mostUndecided}
+use Rattle.message.specs.Front.{marked, startsWithMark, opens, sizeOf, front, mostUndecided}
 use Rattle.message.specs.Theorems.{CuttingHarmless}
 
--- Two bytes decide the opening,
-opens-append : (u v : List ℕ) → 2 ≤ length u → opens (u ++ v) ≡ opens u
+-- Three bytes decide the opening,
+opens-append : (u v : List ℕ) → 3 ≤ length u → opens (u ++ v) ≡ opens u
 opens-append [] v h = absurd (omega arith)
 opens-append (x ∷ []) v h = absurd (omega arith)
-opens-append (x ∷ y ∷ u) v h = refl
+opens-append (x ∷ y ∷ []) v h = absurd (omega arith)
+opens-append (x ∷ y ∷ z ∷ u) v h = refl
 
 opens-false : (u v : List ℕ) → opens u ≡ false → opens (u ++ v) ≡ false
 opens-false [] v e = cc
 opens-false (x ∷ []) v e = go (eqb x 0xA5) e
   where
-    go : (b : Bool) → b && true ≡ false → b && marked v ≡ false
+    go : (b : Bool) → b && true && true ≡ false → b && marked v && not (startsWithMark (drop 1 v)) ≡ false
     go true p = cc
     go false p = refl
-opens-false (x ∷ y ∷ u) v e = e
+opens-false (x ∷ y ∷ []) v e = go (eqb x 0xA5 && eqb y 0xA5) e
+  where
+    go : (b : Bool) → b && true ≡ false → b && not (startsWithMark v) ≡ false
+    go true p = cc
+    go false p = refl
+opens-false (x ∷ y ∷ z ∷ u) v e = e
 
 -- and four the size.
 size-append : (u v : List ℕ) → 4 ≤ length u → sizeOf (u ++ v) ≡ sizeOf u
 size-append u v h = rw (List·getD-append u v 0 3 (omega arith))
 
-pub header : Header opens sizeOf 260 2 4
+pub header : Header opens sizeOf 260 3 4
 header = record { opens-append = opens-append; opens-false = opens-false; size-append = size-append; bounds = λ u. omega arith }
 
-pub ms-cip : Framing front mostUndecided 2
+pub ms-cip : Framing front mostUndecided 3
 unfolding front
 ms-cip = framing header sumsRight
 
@@ -49,7 +55,7 @@ unfolding front
 whole-told = is-whole header sumsRight
 
 pub cutting-harmless : CuttingHarmless
-cutting-harmless = cutting front mostUndecided 2 ms-cip
+cutting-harmless = cutting front mostUndecided 3 ms-cip
 
 -- ---- where a seek ends is within the bytes
 

@@ -2,7 +2,7 @@
 use Prim.Native.Nat.{ℕ, _+_, _%_, _≤_, _<_}
 use native.Mathlib.Omega.{arith}
 use mathlib.Core.Path.{_≡_, refl, ap, sym, _∙_}
-use mathlib.Core.Bool.{Bool, true, false, _&&_}
+use mathlib.Core.Bool.{Bool, true, false, not, _&&_}
 use mathlib.Core.List.{List, [], _∷_, _++_}
 use lib.Dec.{eqb, leb}
 use lib.ListN.{length, take, getD, length-append}
@@ -26,10 +26,11 @@ pub opens-first : (u : List ℕ) → 1 ≤ length u → (getD u 0 0 ≡ 0xA5 →
 opens-first [] h n = absurd (omega arith)
 opens-first (x ∷ u) h n = rw (ne-eqb x 0xA5 n)
 
-opens-bytes : (u : List ℕ) → 2 ≤ length u → opens u ≡ eqb (getD u 0 0) 0xA5 && eqb (getD u 1 0) 0xA5
+pub opens-bytes : (u : List ℕ) → 2 ≤ length u → opens u ≡ eqb (getD u 0 0) 0xA5 && eqb (getD u 1 0) 0xA5 && not (eqb (getD u 2 0) 0xA5)
 opens-bytes [] h = absurd (omega arith)
 opens-bytes (x ∷ []) h = absurd (omega arith)
-opens-bytes (x ∷ y ∷ u) h = refl
+opens-bytes (x ∷ y ∷ []) h = refl
+opens-bytes (x ∷ y ∷ t ∷ u) h = refl
 
 -- ---- the opening
 
@@ -46,7 +47,7 @@ module _ (u : List ℕ) where
   unfolding openingOf
   opening-complete e h = rw (e, le-leb (sizeOf u) (length u) h)
 
--- By the bytes x, y and z that were read as the first, the second and the fourth of held bytes and then a chunk.
+-- By the bytes x, y, s and z that were read as the first four of held bytes and then a chunk.
 module _ (held chunk : List ℕ) where
   long : length (held ++ chunk) ≡ length held + length chunk
   long = length-append held chunk
@@ -74,18 +75,22 @@ module _ (held chunk : List ℕ) where
         told-second n =
             opening-shut (held ++ chunk) (opens-bytes (held ++ chunk) (rw long two) ∙ rw (← p, ← q, eq-eqb _ _ e, ne-eqb _ _ n))
 
-        module _ (f : y ≡ 0xA5) (z : ℕ) (r : z ≡ getD (held ++ chunk) 3 0) (n : ℕ) (t : n ≡ z % 256 + 6) where
-          open-told : opens (held ++ chunk) ≡ true
-          open-told = opens-bytes (held ++ chunk) (rw long two) ∙ rw (← p, ← q, eq-eqb _ _ e, eq-eqb _ _ f)
+        module _ (f : y ≡ 0xA5) (s : ℕ) (a : s ≡ getD (held ++ chunk) 2 0) where
+          opens-on : (b : Bool) → eqb s 0xA5 ≡ b → opens (held ++ chunk) ≡ not b
+          opens-on b g = opens-bytes (held ++ chunk) (rw long two) ∙ rw (← p, ← q, ← a, eq-eqb _ _ e, eq-eqb _ _ f, g)
 
-          size-told : sizeOf (held ++ chunk) ≡ n
-          size-told = rw (t, r)
+          pub told-third : s ≡ 0xA5 → Shut ≡ openingOf (held ++ chunk)
+          told-third g = opening-shut (held ++ chunk) (opens-on true (eq-eqb _ _ g))
 
-          pub told-short : length held + length chunk < n → Short ≡ openingOf (held ++ chunk)
-          told-short k = opening-short (held ++ chunk) open-told (rw (size-told, long) k)
+          module _ (g : s ≡ 0xA5 → ⊥) (z : ℕ) (r : z ≡ getD (held ++ chunk) 3 0) (n : ℕ) (t : n ≡ z % 256 + 6) where
+            size-told : sizeOf (held ++ chunk) ≡ n
+            size-told = rw (t, r)
 
-          pub told-complete : n ≤ length held + length chunk → Complete n ≡ openingOf (held ++ chunk)
-          told-complete k = rw size-told at (opening-complete (held ++ chunk) open-told (rw (size-told, long) k))
+            pub told-short : length held + length chunk < n → Short ≡ openingOf (held ++ chunk)
+            told-short k = opening-short (held ++ chunk) (opens-on false (ne-eqb _ _ g)) (rw (size-told, long) k)
+
+            pub told-complete : n ≤ length held + length chunk → Complete n ≡ openingOf (held ++ chunk)
+            told-complete k = rw size-told at (opening-complete (held ++ chunk) (opens-on false (ne-eqb _ _ g)) (rw (size-told, long) k))
 
 -- ---- the front by the opening
 

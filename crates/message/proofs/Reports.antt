@@ -2,8 +2,8 @@
 use Prim.Native.Nat.{ℕ, _+_, _%_, _≤_}
 use native.Mathlib.Omega.{arith}
 use mathlib.Core.Path.{_≡_, refl, sym, _∙_, ap}
-use mathlib.Core.Bool.{Bool, true, false}
-use mathlib.Core.List.{List, [], _∷_}
+use mathlib.Core.Bool.{Bool, true, false, not, _&&_}
+use mathlib.Core.List.{List}
 use lib.Dec.{eqb}
 use lib.ListN.{length, take, getD}
 use lib.Seq.{getD-take, take-take, length-take-le}
@@ -14,13 +14,16 @@ use Rattle.message.specs.Message.{sumsRight}
 use Rattle.message.specs.Front.{opens}
 use Rattle.message.specs.Whole.{wholeNumber}
 use Rattle.message.specs.Theorems.{wholeOn, ReportedIsWhole}
+use Rattle.message.proofs.Openings.{opens-bytes}
 use Rattle.message.proofs.Framed.{header, whole-told}
 use Rattle.message.proofs.Wholes.{whole-right, whole-wrong}
 
 marks : (u : List ℕ) → 2 ≤ length u → opens u ≡ true → (getD u 0 0 ≡ 0xA5) × (getD u 1 0 ≡ 0xA5)
-marks [] l e = absurd (omega arith)
-marks (x ∷ []) l e = absurd (omega arith)
-marks (x ∷ y ∷ u) l e = let b = and-both (eqb x 0xA5) (eqb y 0xA5) e in (eqb-true x 0xA5 (b .0), eqb-true y 0xA5 (b .1))
+marks u l e =
+    let w = sym (opens-bytes u l) ∙ e in
+    let b = and-both (eqb (getD u 0 0) 0xA5 && eqb (getD u 1 0) 0xA5) (not (eqb (getD u 2 0) 0xA5)) w in
+    let c = and-both (eqb (getD u 0 0) 0xA5) (eqb (getD u 1 0) 0xA5) (b .0) in
+    (eqb-true (getD u 0 0) 0xA5 (c .0), eqb-true (getD u 1 0) 0xA5 (c .1))
 
 pub reported-is-whole : ReportedIsWhole
 reported-is-whole u n good e = by good (t .valid-is)

@@ -3,14 +3,14 @@ use Prim.Native.Nat.{ℕ, suc, _+_, _-_, _%_, _≤_, _<_}
 use native.Mathlib.Omega.{arith}
 use native.Mathlib.Numerals.{add-one}
 use mathlib.Core.Path.{_≡_, refl, ap, _∙_, sym}
-use mathlib.Core.Bool.{Bool, true, false}
+use mathlib.Core.Bool.{Bool, true, false, not}
 use mathlib.Core.List.{List, [], _∷_, _++_}
 use lib.Dec.{eqb, ltb}
 use lib.ListN.{length, take, drop, getD, length-append, take-append-drop, drop-of-length-le}
-use lib.Seq.{take-at, drop-at, getD-at, getD-append-add, take-length, length-take-le, drop-cons}
-use borrow.Author.Tests.{ltb-false, eqb-true, eq-eqb}
+use lib.Seq.{drop-append-le, take-at, drop-at, getD-at, getD-append-add, take-length, length-take-le, drop-cons}
+use borrow.Author.Tests.{ltb-false, eqb-true, eq-eqb, ne-eqb}
 use Rattle.stream.specs.declared.Verdict.the-variants.{Whole}
-use Rattle.stream.specs.Scan.{reported, events}
+use Rattle.stream.specs.Scan.{skipped, reported, events}
 use Rattle.stream.proofs.Bools.{and-both}
 use Rattle.message.specs.Fletcher.{sums}
 use Rattle.message.specs.Message.{summedBytes, withSums, messageOf, typeOf, lengthOf, payloadOf, headed, sumsRight}
@@ -18,7 +18,7 @@ use Rattle.message.specs.Front.{opens, sizeOf, front}
 use Rattle.message.specs.Whole.{wholeNumber}
 use Rattle.message.specs.Theorems.{RoundTrip, WrittenIsRead, ReadIsWritten}
 use Rattle.message.proofs.Framed.{cutting-harmless}
-use Rattle.message.proofs.Openings.{front-whole}
+use Rattle.message.proofs.Openings.{front-skip, front-whole}
 use Rattle.message.proofs.Wholes.{whole-right}
 use Rattle.message.proofs.Writes.{message-length}
 
@@ -52,19 +52,27 @@ module _ (kind : ℕ) (payload : List ℕ) (fits : length payload ≤ 255) where
   unfolding messageOf
   size-m v = rw small
 
-  open-m : (v : List ℕ) → opens (m ++ v) ≡ true
+  opens-m : (v : List ℕ) → opens (m ++ v) ≡ not (eqb kind 0xA5)
   unfolding messageOf
-  open-m v = refl
+  opens-m v = refl
 
-  good-m : (v : List ℕ) → front (m ++ v) ≡ Whole (length payload + 6) true
-  good-m v =
+  good-m : (kind ≡ 0xA5 → ⊥) → (v : List ℕ) → front (m ++ v) ≡ Whole (length payload + 6) true
+  good-m other v =
+      let o : opens (m ++ v) ≡ true = rw (opens-m v, ne-eqb kind 0xA5 other) in
       let h : sizeOf (m ++ v) ≤ length (m ++ v) = rw (size-m v, length-append, message-length) (omega arith) in
-      sym (rw (size-m v, take-m v, message-sums) at (front-whole (m ++ v) (open-m v) h))
+      sym (rw (size-m v, take-m v, message-sums) at (front-whole (m ++ v) o h))
 
-  scanned-m : (v : List ℕ) → events front (m ++ v) ≡ reported (record { good = true; bytes = m }) ∷ events front v
-  scanned-m v =
+  scanned-m : (kind ≡ 0xA5 → ⊥) → (v : List ℕ) → events front (m ++ v) ≡ reported (record { good = true; bytes = m }) ∷ events front v
+  scanned-m other v =
       rw (take-m v, drop-at m v (length payload + 6) (message-length kind payload))
-      at (cutting-harmless .scan-good (m ++ v) (length payload + 6) (good-m v))
+      at (cutting-harmless .scan-good (m ++ v) (length payload + 6) (good-m other v))
+
+  passed-over-m : kind ≡ 0xA5 → (v : List ℕ) → events front (m ++ v) ≡ skipped ∷ events front (drop 1 m ++ v)
+  passed-over-m same v =
+      let o : opens (m ++ v) ≡ false = rw (opens-m v, eq-eqb kind 0xA5 same) in
+      let l : length m ≡ length payload + 6 = message-length kind payload in
+      rw (drop-append-le 1 m v (omega arith))
+      at (cutting-harmless .scan-skip (m ++ v) (rw length-append (omega arith)) (sym (front-skip (m ++ v) o)))
 
   first-m : getD m 0 0 ≡ 0xA5
   unfolding messageOf
@@ -98,10 +106,11 @@ module _ (kind : ℕ) (payload : List ℕ) (fits : length payload ≤ 255) where
       record {
         size = message-length kind payload;
         whole = whole-m;
-        good = good-m;
-        scanned = scanned-m;
         kind-back = kind-m;
         payload-back = payload-m;
+        good = good-m;
+        scanned = scanned-m;
+        passed-over = passed-over-m;
       }
 
 pub written-is-read : WrittenIsRead

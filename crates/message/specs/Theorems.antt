@@ -4,10 +4,12 @@ use mathlib.Core.Bool.{Bool, true, false}
 use mathlib.Core.List.{List, [], _∷_, _++_}
 use mathlib.Core.Option.{some}
 use Prim.Native.Nat.{ℕ, _+_, _≤_, _<_}
-use lib.ListN.{length, getD, take}
-use Rattle.stream.specs.declared.Verdict.the-variants.{Whole}
-use Rattle.stream.specs.Scan.{reported, events}
-use Rattle.stream.specs.Cutting.{Cutting}
+use lib.ListN.{length, getD, take, drop, replicate}
+use Rattle.stream.specs.declared.Verdict.the-variants.{Undecided, Whole}
+use Rattle.stream.specs.declared.Sought.the-variants.{Starved}
+use Rattle.stream.specs.Scan.{Message, skipped, reported, events, messages}
+use Rattle.stream.specs.Seek.{seek}
+use Rattle.stream.specs.Cutting.{skips, Cutting}
 use Rattle.message.specs.Fields.{Field, SizesRight, rowBytes, fieldsOf}
 use Rattle.message.specs.Fletcher.{sums, totals, reduced}
 use Rattle.message.specs.Front.{front, mostUndecided}
@@ -33,17 +35,37 @@ pub record RoundTrip (kind : ℕ) (payload : List ℕ) : Type 0 where
   pub size : length (messageOf kind payload) ≡ length payload + 6
   -- one whole message
   pub whole : wholeNumber (messageOf kind payload) ≡ 0
-  -- a good message at the front, whatever follows
-  pub good : (v : List ℕ) → front (messageOf kind payload ++ v) ≡ Whole (length payload + 6) true
-  -- the scan reports it, and goes on after it
-  pub scanned : (v : List ℕ) → events front (messageOf kind payload ++ v)
-      ≡ reported (record { good = true; bytes = messageOf kind payload }) ∷ events front v
   -- type and payload are read back
   pub kind-back : typeOf (messageOf kind payload) ≡ kind
   pub payload-back : payloadOf (messageOf kind payload) ≡ payload
+  -- of every type but A5: a good message at the front, whatever follows,
+  pub good : (kind ≡ 0xA5 → ⊥) → (v : List ℕ) → front (messageOf kind payload ++ v) ≡ Whole (length payload + 6) true
+  -- which the scan reports, and goes on after it
+  pub scanned : (kind ≡ 0xA5 → ⊥) → (v : List ℕ) → events front (messageOf kind payload ++ v)
+      ≡ reported (record { good = true; bytes = messageOf kind payload }) ∷ events front v
+  -- of type A5 (request 01): the first byte is skipped, whatever follows, and the scan goes on behind it
+  pub passed-over : kind ≡ 0xA5 → (v : List ℕ) → events front (messageOf kind payload ++ v) ≡ skipped ∷ events front (drop 1 (messageOf kind payload) ++ v)
 
 abbrev pub WrittenIsRead : Type 0
 WrittenIsRead = (kind : ℕ) (payload : List ℕ) → length payload ≤ 255 → RoundTrip kind payload
+
+-- No message of this type.
+abbrev pub NoneOfType : ℕ → List Message → Type 0
+NoneOfType kind [] = Unit {0}
+NoneOfType kind (m ∷ ms) = (typeOf (m .bytes) ≡ kind → ⊥) × NoneOfType kind ms
+
+-- Request 01: one stray A5, or a run of them, costs no report.
+pub record StrayMarks : Type 0 where
+  -- Behind A5 A5 a third byte is there and is A5: one byte is skipped and nothing reported.
+  pub third : (v : List ℕ) → events front (0xA5 ∷ 0xA5 ∷ 0xA5 ∷ v) ≡ skipped ∷ events front (0xA5 ∷ 0xA5 ∷ v)
+  -- A5 A5 alone is undecided, and so is one A5.
+  pub two-alone : front (0xA5 ∷ 0xA5 ∷ []) ≡ Undecided
+  pub one-alone : front (0xA5 ∷ []) ≡ Undecided
+  -- So a run is skipped but for its last two, whatever follows; and where nothing follows, these two are held.
+  pub run : (k : ℕ) (v : List ℕ) → events front (replicate k 0xA5 ++ (0xA5 ∷ 0xA5 ∷ v)) ≡ skips k ++ events front (0xA5 ∷ 0xA5 ∷ v)
+  pub run-held : (k : ℕ) → seek front (replicate k 0xA5 ++ (0xA5 ∷ 0xA5 ∷ [])) ≡ Starved k
+  -- A5 is nobody's type: the scan reports no message of it, good or damaged, in any stream.
+  pub nobodys-type : (u : List ℕ) → NoneOfType 0xA5 (messages (events front u))
 
 -- The other way: one whole good message is what the plain writer writes of its type and payload. (L is a byte.)
 abbrev pub ReadIsWritten : Type 0

@@ -56,6 +56,31 @@ fn next_mark(s: &[u8], from: usize) -> usize
     i
 }
 
+// A run of A5 from `from` on is skipped but for its last two bytes: where they stand, or `from` where no two A5 do. It is a loop
+// of its own that looks at each byte of a long run once.
+fn past_run(s: &[u8], from: usize) -> usize
+    requires { ⌜ (from ≤ length (now s)) × (seek front (now s) ≡ beyond from (seek front (drop from (now s)))) ⌝ }
+    ensures { λ r. ⌜ (from ≤ r) × (r ≤ length (now (s .entry))) × (seek front (now (s .entry)) ≡ beyond r (seek front (drop r (now (s .entry))))) ⌝ }
+{
+    if s.len() - from < 2 {
+        return from;
+    }
+    if s[from] != 0xA5 {
+        return from;
+    }
+    if s[from + 1] != 0xA5 {
+        return from;
+    }
+    let mut i = from;
+    while i + 2 < s.len() {
+        if s[i + 2] != 0xA5 {
+            return i;
+        }
+        i += 1;
+    }
+    i
+}
+
 // Where the seek through `s` ends.
 pub fn seek(s: &[u8]) -> Sought
     ensures { λ r. ⌜ r ≡ seek front (now (s .entry)) ⌝ }
@@ -64,7 +89,7 @@ pub fn seek(s: &[u8]) -> Sought
     loop {
         match front_at(s, at) {
             Verdict::Skip => {
-                at = next_mark(s, at + 1);
+                at = past_run(s, next_mark(s, at + 1));
             }
             Verdict::Undecided => {
                 return Sought::Starved(at);

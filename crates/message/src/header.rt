@@ -52,6 +52,10 @@ pub(crate) fn opening_over(held: &[u8], chunk: &[u8]) -> Opening
     if byte_over(held, chunk, 1) != 0xA5 {
         return Opening::Shut;
     }
+    // 0 where there is no third byte
+    if byte_over(held, chunk, 2) == 0xA5 {
+        return Opening::Shut;
+    }
     let n = size_from(byte_over(held, chunk, 3));
     if left < n {
         Opening::Short

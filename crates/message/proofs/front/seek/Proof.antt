@@ -38,8 +38,11 @@ add-next-mark c = let h = there c in omega arith
 next-mark-requires-2 : tie.Need-next-mark-requires-2 Inv-loop μ-loop
 next-mark-requires-2 c κs = (let h = there c in omega arith, search (seek-skips, skip-there, needs))
 
+past-run-requires : tie.Need-past-run-requires Inv-loop μ-loop
+past-run-requires c κs = search needs
+
 loop-less : tie.Need-loop-less Inv-loop μ-loop
-loop-less c = let h = there (c .before) in omega arith
+loop-less c = let h = there (c .before .before) in omega arith
 
 loop-again : tie.Need-loop-again Inv-loop μ-loop
 loop-again c = search needs
@@ -68,6 +71,7 @@ seek-spec =
     enum-told
     add-next-mark
     next-mark-requires-2
+    past-run-requires
     loop-less
     loop-again
     enum-told-2

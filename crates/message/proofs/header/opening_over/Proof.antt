@@ -1,5 +1,5 @@
 -- `message::header::opening_over` meets its contract: each `return` is a case of what the bytes tell.
-use Rattle.message.proofs.Openings.{told-none, told-first, told-one, told-second, told-short, told-complete}
+use Rattle.message.proofs.Openings.{told-none, told-first, told-one, told-second, told-third, told-short, told-complete}
 use borrow.Author.Needs.{needs}
 use Rattle.message.proofs.header.opening_over.Statement.{statement}
 use Rattle.message.proofs.header.opening_over.Tie as tie
@@ -28,14 +28,20 @@ returns-4 c = search (told-second, needs)
 byte-over-requires-3 : tie.Need-byte-over-requires-3
 byte-over-requires-3 c κs = search needs
 
+returns-5 : tie.Need-returns-5
+returns-5 c = search (told-third, needs)
+
+byte-over-requires-4 : tie.Need-byte-over-requires-4
+byte-over-requires-4 c κs = search needs
+
 size-from-requires : tie.Need-size-from-requires
 size-from-requires c κs = search needs
 
-returns-5 : tie.Need-returns-5
-returns-5 c = search (told-short, needs)
-
 returns-6 : tie.Need-returns-6
-returns-6 c = search (told-complete, needs)
+returns-6 c = search (told-short, needs)
+
+returns-7 : tie.Need-returns-7
+returns-7 c = search (told-complete, needs)
 
 pub opening-over-spec : {M : Type 1} → statement M
 opening-over-spec =
@@ -49,6 +55,8 @@ opening-over-spec =
     byte-over-requires-2
     returns-4
     byte-over-requires-3
-    size-from-requires
     returns-5
-    returns-6)
+    byte-over-requires-4
+    size-from-requires
+    returns-6
+    returns-7)
