@@ -4,6 +4,7 @@ pub mod Fronts
 pub mod Openings
 pub mod Reports
 pub mod RoundTrips
+pub mod Skipped
 pub mod Strays
 pub mod Sums
 pub mod Wholes

@@ -1,16 +1,15 @@
 -- A stray A5, a run of them, and the type A5.
-use Prim.Native.Nat.{ℕ, zero, suc, pred, _≤_}
+use Prim.Native.Nat.{ℕ, zero, suc, pred}
 use native.Mathlib.Omega.{arith}
 use mathlib.Core.Path.{_≡_, refl, ap, sym, _∙_}
 use mathlib.Core.Bool.{Bool, true, false, not, _&&_}
 use mathlib.Core.List.{List, [], _∷_, _++_}
 use lib.Dec.{eqb}
-use lib.ListN.{length, take, getD, replicate}
+use lib.ListN.{take, getD, replicate}
 use lib.Seq.{getD-take}
 use borrow.Author.Tests.{eq-eqb}
 use Rattle.stream.specs.declared.Verdict.{Verdict}
 use Rattle.stream.specs.declared.Verdict.the-variants.{Skip, Undecided, Whole}
-use Rattle.stream.specs.declared.Sought.{Sought}
 use Rattle.stream.specs.declared.Sought.the-variants.{Starved}
 use Rattle.stream.specs.Scan.{Event, skipped, eventsOn, eventsPast, events, messages}
 use Rattle.stream.specs.Seek.{afterSkip, seek}
@@ -18,7 +17,7 @@ use Rattle.stream.specs.Cutting.{skips}
 use Rattle.stream.proofs.Bools.{and-both}
 use Rattle.stream.proofs.Framings.{IsWhole}
 use Rattle.message.specs.Message.{typeOf, sumsRight}
-use Rattle.message.specs.Front.{startsWithMark, opens, front}
+use Rattle.message.specs.Front.{startsWithMark, front}
 use Rattle.message.specs.Theorems.{NoneOfType, StrayMarks}
 use Rattle.message.proofs.Openings.{opens-bytes, front-skip}
 use Rattle.message.proofs.Framed.{header, whole-told, cutting-harmless}

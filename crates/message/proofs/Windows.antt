@@ -1,5 +1,5 @@
 -- The laws of held bytes and a chunk, as one row of bytes.
-use Prim.Native.Nat.{ℕ, _+_, _-_, _%_, _≤_, _<_}
+use Prim.Native.Nat.{ℕ, _+_, _-_, _≤_, _<_}
 use native.Mathlib.Omega.{arith}
 use mathlib.Core.Path.{_≡_, ap, _∙_, sym}
 use mathlib.Core.Bool.{Bool}
@@ -9,7 +9,6 @@ use lib.Seq.{getD-append-add, drop-append-add, drop-append-le, take-append-le, t
 use Rattle.stream.specs.declared.Sought.{Sought}
 use Rattle.stream.specs.declared.Sought.the-variants.{Starved, Found}
 use Rattle.stream.specs.declared.Verdict.{Verdict}
-use Rattle.stream.specs.declared.Verdict.the-variants.{Skip, Undecided, Whole}
 use Rattle.stream.specs.Seek.{beyond, seek}
 use Rattle.message.specs.declared.header.Opening.{Opening}
 use Rattle.message.specs.declared.header.Opening.the-variants.{Complete}

@@ -3,6 +3,7 @@ pub mod Fletcher
 pub mod Front
 pub mod Header
 pub mod Message
+pub mod Skips
 pub mod Theorems
 pub mod Whole
 pub mod Write

@@ -4,6 +4,7 @@ mod bytes;
 mod fletcher;
 mod front;
 mod header;
+mod skips;
 mod whole;
 mod window;
 mod write;

@@ -13,6 +13,7 @@ use crate::front::seek;
 use crate::header::Opening;
 use crate::header::byte_over;
 use crate::header::opening_over;
+use crate::skips::past_skips;
 use stream::Sought;
 use stream::Verdict;
 
@@ -78,7 +79,7 @@ pub fn seek_over(held: &[u8], chunk: &[u8]) -> Sought
     while at < h {
         match front_over(held, chunk, at) {
             Verdict::Skip => {
-                at += 1;
+                at = past_skips(held, at + 1);
             }
             Verdict::Undecided => {
                 return Sought::Starved(at);

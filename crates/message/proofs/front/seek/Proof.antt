@@ -1,4 +1,4 @@
--- `message::front::seek` meets its contract. Invariant: what remains to be sought is what is sought in all.
+-- `message::front::seek` meets its contract. The invariant: what remains to be sought is what is sought in all.
 use borrow.Author.Needs.{needs}
 use native.Mathlib.Omega.{arith}
 use Prim.Native.Nat.{_-_, _<_, _≤_}
@@ -8,6 +8,7 @@ use Rattle.stream.specs.Seek.{beyond, seek}
 use Rattle.stream.proofs.Seeks.{seek-starts, seek-skips, seek-starves, seek-finds}
 use Rattle.message.specs.Front.{front}
 use Rattle.message.proofs.Fronts.{skip-there, whole-there}
+use Rattle.message.proofs.Skipped.{seek-passes-here}
 use Rattle.message.proofs.front.seek.Statement.{statement}
 use Rattle.message.proofs.front.seek.Tie as tie
 
@@ -17,11 +18,8 @@ Inv-loop s at₀ at = (at ≤ length s) × (seek front s ≡ beyond at (seek fro
 abbrev μ-loop : tie.MeasureT-loop
 μ-loop s at₀ at = length s - at
 
-next-mark-requires : tie.Need-next-mark-requires Inv-loop μ-loop
-next-mark-requires c κs = (omega arith, seek-starts front _)
-
 loop-holds : tie.Need-loop-holds Inv-loop μ-loop
-loop-holds c = search needs
+loop-holds c = (omega arith, seek-starts front _)
 
 front-at-requires : tie.Need-front-at-requires Inv-loop μ-loop
 front-at-requires c κs = search needs
@@ -29,23 +27,20 @@ front-at-requires c κs = search needs
 enum-told : tie.Need-enum-told Inv-loop μ-loop
 enum-told c = search needs
 
-there : (c : tie.After-enum-told Inv-loop μ-loop) → c .before .before .before .loop .at < length (c .before .before .before .before .before .before .args .s .now)
+there : (c : tie.After-enum-told Inv-loop μ-loop) → c .before .before .before .loop .at < length (c .before .before .before .before .before .args .s .now)
 there c = search (skip-there, needs)
 
-add-next-mark : tie.Need-add-next-mark Inv-loop μ-loop
-add-next-mark c = let h = there c in omega arith
+add-past-skips : tie.Need-add-past-skips Inv-loop μ-loop
+add-past-skips c = search needs
 
-next-mark-requires-2 : tie.Need-next-mark-requires-2 Inv-loop μ-loop
-next-mark-requires-2 c κs = (let h = there c in omega arith, search (seek-skips, skip-there, needs))
-
-past-run-requires : tie.Need-past-run-requires Inv-loop μ-loop
-past-run-requires c κs = search needs
+past-skips-requires : tie.Need-past-skips-requires Inv-loop μ-loop
+past-skips-requires c κs = let h = there c in omega arith
 
 loop-less : tie.Need-loop-less Inv-loop μ-loop
-loop-less c = let h = there (c .before .before) in omega arith
+loop-less c = search needs
 
 loop-again : tie.Need-loop-again Inv-loop μ-loop
-loop-again c = search needs
+loop-again c = (search needs, search (seek-passes-here, seek-skips, skip-there, needs))
 
 enum-told-2 : tie.Need-enum-told-2 Inv-loop μ-loop
 enum-told-2 c = search needs
@@ -65,13 +60,11 @@ seek-spec =
     (tie.spec
     Inv-loop
     μ-loop
-    next-mark-requires
     loop-holds
     front-at-requires
     enum-told
-    add-next-mark
-    next-mark-requires-2
-    past-run-requires
+    add-past-skips
+    past-skips-requires
     loop-less
     loop-again
     enum-told-2

@@ -1,4 +1,4 @@
--- `message::window::seek_over` meets its contract. Invariant: what remains to be sought is what is sought in all.
+-- `message::window::seek_over` meets its contract. The invariant: what remains to be sought is what is sought in all.
 use borrow.Author.Needs.{needs}
 use native.Mathlib.Omega.{arith}
 use Prim.Native.Nat.{_-_, _≤_}
@@ -10,6 +10,7 @@ use Rattle.stream.proofs.Seeks.{seek-starts, seek-skips, seek-starves, seek-fin
 use Rattle.message.specs.Front.{front}
 use Rattle.message.proofs.Fronts.{skip-there, whole-there}
 use Rattle.message.proofs.Windows.{seek-chunk}
+use Rattle.message.proofs.Skipped.{seek-passes}
 use Rattle.message.proofs.window.seek_over.Statement.{statement}
 use Rattle.message.proofs.window.seek_over.Tie as tie
 
@@ -28,14 +29,17 @@ front-over-requires c κs = search needs
 enum-told : tie.Need-enum-told Inv-loop μ-loop
 enum-told c = search needs
 
-add-at : tie.Need-add-at Inv-loop μ-loop
-add-at c = search needs
+add-past-skips : tie.Need-add-past-skips Inv-loop μ-loop
+add-past-skips c = search needs
+
+past-skips-requires : tie.Need-past-skips-requires Inv-loop μ-loop
+past-skips-requires c κs = search needs
 
 loop-less : tie.Need-loop-less Inv-loop μ-loop
 loop-less c = search needs
 
 loop-again : tie.Need-loop-again Inv-loop μ-loop
-loop-again c = (omega arith, search (seek-skips, skip-there, needs))
+loop-again c = (search needs, search (seek-passes, seek-skips, skip-there, needs))
 
 enum-told-2 : tie.Need-enum-told-2 Inv-loop μ-loop
 enum-told-2 c = search needs
@@ -64,7 +68,8 @@ seek-over-spec =
     loop-holds
     front-over-requires
     enum-told
-    add-at
+    add-past-skips
+    past-skips-requires
     loop-less
     loop-again
     enum-told-2

@@ -1,18 +1,15 @@
--- `message::front::past_run` meets its contract. Invariant: two A5 stand at `i`, and what remains to be sought is what is sought
--- in all.
+-- `message::skips::past_run` meets its contract. The invariant: two A5 stand at `i`, and what is before it is skipped.
 use Prim.Native.Nat.{_+_, _-_, _≤_}
 use mathlib.Core.Path.{_≡_}
-use lib.ListN.{length, drop, getD}
+use lib.ListN.{length, getD}
 use borrow.Author.Needs.{needs}
-use Rattle.stream.specs.Seek.{beyond, seek}
-use Rattle.message.specs.Front.{front}
-use Rattle.message.proofs.Fronts.{run-next, run-passes}
-use Rattle.message.proofs.front.past_run.Statement.{statement}
-use Rattle.message.proofs.front.past_run.Tie as tie
+use Rattle.message.specs.Skips.{Skips}
+use Rattle.message.proofs.Skipped.{skips-none, skips-stray, run-next}
+use Rattle.message.proofs.skips.past_run.Statement.{statement}
+use Rattle.message.proofs.skips.past_run.Tie as tie
 
 abbrev Inv-loop : tie.InvT-loop
-Inv-loop s from i₀ i =
-    (from ≤ i) × (i + 2 ≤ length s) × (getD s i 0 ≡ 0xA5) × (getD s (i + 1) 0 ≡ 0xA5) × (seek front s ≡ beyond i (seek front (drop i s)))
+Inv-loop s from i₀ i = (i + 2 ≤ length s) × (getD s i 0 ≡ 0xA5) × (getD s (i + 1) 0 ≡ 0xA5) × Skips s from i
 
 abbrev μ-loop : tie.MeasureT-loop
 μ-loop s from i₀ i = length s - i
@@ -21,13 +18,13 @@ sub-if1 : tie.Need-sub-if1 Inv-loop μ-loop
 sub-if1 c = search needs
 
 returns : tie.Need-returns Inv-loop μ-loop
-returns c = search needs
+returns c = search (skips-none, needs)
 
 shared-slice-read-if2 : tie.Need-shared-slice-read-if2 Inv-loop μ-loop
 shared-slice-read-if2 c = search needs
 
 returns-2 : tie.Need-returns-2 Inv-loop μ-loop
-returns-2 c = search needs
+returns-2 c = search (skips-none, needs)
 
 add-if3 : tie.Need-add-if3 Inv-loop μ-loop
 add-if3 c = search needs
@@ -36,10 +33,10 @@ shared-slice-read-if3 : tie.Need-shared-slice-read-if3 Inv-loop μ-loop
 shared-slice-read-if3 c = search needs
 
 returns-3 : tie.Need-returns-3 Inv-loop μ-loop
-returns-3 c = search needs
+returns-3 c = search (skips-none, needs)
 
 loop-holds : tie.Need-loop-holds Inv-loop μ-loop
-loop-holds c = search needs
+loop-holds c = search (skips-none, needs)
 
 add-loop : tie.Need-add-loop Inv-loop μ-loop
 add-loop c = search needs
@@ -60,7 +57,7 @@ loop-less : tie.Need-loop-less Inv-loop μ-loop
 loop-less c = search needs
 
 loop-again : tie.Need-loop-again Inv-loop μ-loop
-loop-again c = search (run-passes, run-next, needs)
+loop-again c = search (skips-stray, run-next, needs)
 
 returns-5 : tie.Need-returns-5 Inv-loop μ-loop
 returns-5 c = search needs

@@ -1,19 +1,20 @@
--- `message::front::next_mark` meets its contract. Invariant: what remains to be sought is what is sought in all.
-use Prim.Native.Nat.{_-_, _≤_}
-use mathlib.Core.Path.{_≡_}
-use lib.ListN.{length, drop}
+-- `message::skips::next_mark` meets its contract. The invariant: what is before `i` is skipped.
+use Prim.Native.Nat.{_-_}
+use lib.ListN.{length}
 use borrow.Author.Needs.{needs}
-use Rattle.stream.specs.Seek.{beyond, seek}
-use Rattle.message.specs.Front.{front}
-use Rattle.message.proofs.Fronts.{mark-passes}
-use Rattle.message.proofs.front.next_mark.Statement.{statement}
-use Rattle.message.proofs.front.next_mark.Tie as tie
+use Rattle.message.specs.Skips.{Skips}
+use Rattle.message.proofs.Skipped.{skips-other}
+use Rattle.message.proofs.skips.next_mark.Statement.{statement}
+use Rattle.message.proofs.skips.next_mark.Tie as tie
 
 abbrev Inv-loop : tie.InvT-loop
-Inv-loop s from i₀ i = (from ≤ i) × (i ≤ length s) × (seek front s ≡ beyond i (seek front (drop i s)))
+Inv-loop s from i₀ i = Skips s from i
 
 abbrev μ-loop : tie.MeasureT-loop
 μ-loop s from i₀ i = length s - i
+
+past-blocks-requires : tie.Need-past-blocks-requires Inv-loop μ-loop
+past-blocks-requires c κs = search needs
 
 loop-holds : tie.Need-loop-holds Inv-loop μ-loop
 loop-holds c = search needs
@@ -31,7 +32,7 @@ loop-less : tie.Need-loop-less Inv-loop μ-loop
 loop-less c = search needs
 
 loop-again : tie.Need-loop-again Inv-loop μ-loop
-loop-again c = search (mark-passes, needs)
+loop-again c = search (skips-other, needs)
 
 returns-2 : tie.Need-returns-2 Inv-loop μ-loop
 returns-2 c = search needs
@@ -42,6 +43,7 @@ next-mark-spec =
     (tie.spec
     Inv-loop
     μ-loop
+    past-blocks-requires
     loop-holds
     shared-slice-read-if1
     returns

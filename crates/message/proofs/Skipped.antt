@@ -1,0 +1,117 @@
+-- The laws of bytes that are passed over.
+use Prim.Native.Nat.{ℕ, zero, suc, _+_, _-_, _≤_, _<_}
+use native.Mathlib.Omega.{arith}
+use native.Mathlib.Numerals.{add-one}
+use native.Mathlib.Nat.{add-zero, add-sub-cancel-left}
+use mathlib.Core.Path.{_≡_, refl, ap, _∙_, sym}
+use mathlib.Core.Bool.{Bool, true, false, _||_, or-assoc, or-false}
+use mathlib.Core.List.{List, [], _++_, append-nil}
+use lib.Dec.{eqb}
+use lib.ListN.{length, take, drop, getD, length-drop, length-append, List·getD-append, drop-of-length-le}
+use lib.Seq.{getD-drop, drop-append-le, drop-cons, drop-drop}
+use borrow.Author.Tests.{eq-eqb, eqb-false}
+use Rattle.stream.specs.declared.Verdict.the-variants.{Skip}
+use Rattle.stream.specs.declared.Sought.{Sought}
+use Rattle.stream.specs.declared.Sought.the-variants.{Starved, Found}
+use Rattle.stream.specs.Seek.{beyond, seek}
+use Rattle.stream.proofs.Bools.{or-neither}
+use Rattle.stream.proofs.Seeks.{seek-starts, seek-skips, beyond-zero}
+use Rattle.message.specs.Front.{opens, front}
+use Rattle.message.specs.Skips.{hasMark, Skips}
+use Rattle.message.proofs.Openings.{opens-first, opens-bytes, front-skip}
+
+beyond-beyond : (a b : ℕ) (r : Sought) → beyond a (beyond b r) ≡ beyond (a + b) r
+beyond-beyond a b (Starved k) = let e : a + (b + k) ≡ a + b + k = omega arith in ap Starved e
+beyond-beyond a b (Found k n good) = let e : a + (b + k) ≡ a + b + k = omega arith in ap (λ (i : ℕ). Found i n good) e
+
+-- ---- one place after the other
+
+module _ (s : List ℕ) where
+  pub skips-none : (from : ℕ) → from ≤ length s → Skips s from from
+  skips-none from h =
+      let z : from - from ≡ 0 = omega arith in
+      record { forward = omega arith; inside = h; sought = λ v. rw z (sym (beyond-zero (seek front (drop from s ++ v)))) }
+
+  pub skips-on : {from i to : ℕ} → Skips s from i → Skips s i to → Skips s from to
+  skips-on {from} {i} {to} a b =
+      let k : i - from + (to - i) ≡ to - from = omega (arith, a .forward, b .forward) in
+      record {
+        forward = omega (arith, a .forward, b .forward);
+        inside = b .inside;
+        sought = λ v. rw k at (a .sought v ∙ ap (beyond (i - from)) (b .sought v) ∙ beyond-beyond (i - from) (to - i) (seek front (drop to s ++ v)));
+      }
+
+  -- A place at which no message opens, whatever follows.
+  skips-one : (i : ℕ) → i < length s → ((v : List ℕ) → opens (drop i s ++ v) ≡ false) → Skips s i (i + 1)
+  skips-one i h shut =
+      record {
+        forward = omega arith;
+        inside = omega arith;
+        sought = λ v.
+            let w = drop i s ++ v in
+            let l : 0 < length w = rw (length-append, length-drop) (omega arith) in
+            let d : drop (0 + 1) w ≡ drop (i + 1) s ++ v = rw (drop-append-le 1 (drop i s) v (rw length-drop (omega arith)), drop-drop) in
+            let k : i + 1 - i ≡ 0 + 1 = omega arith in
+            rw (k, ← d) (seek-skips front w 0 Skip (front-skip w (shut v)) l refl (seek-starts front w));
+      }
+
+  byte : (i k : ℕ) (v : List ℕ) → i + k < length s → getD (drop i s ++ v) k 0 ≡ getD s (i + k) 0
+  byte i k v h = List·getD-append (drop i s) v 0 k (rw length-drop (omega arith)) ∙ getD-drop i s k 0
+
+  -- What is no A5.
+  pub skips-other : (from i : ℕ) → i < length s → (getD s i 0 ≡ 0xA5 → ⊥) → Skips s from i → Skips s from (i + 1)
+  skips-other from i h n before = skips-on before (skips-one i h shut)
+    where
+      shut : (v : List ℕ) → opens (drop i s ++ v) ≡ false
+      shut v =
+          opens-first (drop i s ++ v) (rw (length-append, length-drop) (omega arith)) (λ e. n (rw add-zero at (sym (byte i 0 v (omega arith)) ∙ e)))
+
+  -- An A5 that two more follow.
+  pub skips-stray : (from i : ℕ) → i + 2 < length s → getD s i 0 ≡ 0xA5 → getD s (i + 1) 0 ≡ 0xA5 → getD s (i + 2) 0 ≡ 0xA5
+      → Skips s from i → Skips s from (i + 1)
+  skips-stray from i h x y z before = skips-on before (skips-one i (omega arith) shut)
+    where
+      is : (k : ℕ) (v : List ℕ) → i + k < length s → getD s (i + k) 0 ≡ 0xA5 → eqb (getD (drop i s ++ v) k 0) 0xA5 ≡ true
+      is k v l e = eq-eqb _ _ (byte i k v l ∙ e)
+
+      shut : (v : List ℕ) → opens (drop i s ++ v) ≡ false
+      shut v =
+          opens-bytes (drop i s ++ v) (rw (length-append, length-drop) (omega arith))
+          ∙ rw (is 0 v (omega arith) (rw add-zero x), is 1 v (omega arith) y, is 2 v h z)
+
+pub run-next : (w : List ℕ) (i : ℕ) → getD w (i + 2) 0 ≡ 0xA5 → getD w (i + 1 + 1) 0 ≡ 0xA5
+run-next w i e = let k : i + 2 ≡ i + 1 + 1 = omega arith in rw k at e
+
+-- ---- blocks
+
+module _ (b : List ℕ) (i : ℕ) (found : Bool) (inv : hasMark b ≡ found || hasMark (drop i b)) where
+  pub mark-more : i < length b → hasMark b ≡ (found || eqb (getD b i 0) 0xA5) || hasMark (drop (i + 1) b)
+  mark-more h = inv ∙ rw (drop-cons b i 0 h, add-one, or-assoc)
+
+  pub mark-all : length b ≤ i → found ≡ hasMark b
+  mark-all h = sym (inv ∙ rw (drop-of-length-le b h, or-false))
+
+skips-unmarked : (s : List ℕ) (from i n : ℕ) → i + n ≤ length s → hasMark (take n (drop i s)) ≡ false → Skips s from i → Skips s from (i + n)
+skips-unmarked s from i zero h e before = rw add-zero before
+skips-unmarked s from i (suc n) h e before =
+    let o = or-neither (eqb (getD s i 0) 0xA5) (hasMark (take n (drop (suc i) s))) (rw (drop-cons s i 0 (omega arith)) at e) in
+    let k : i + 1 + n ≡ i + suc n = omega arith in
+    rw k
+    at (skips-unmarked s from (i + 1) n (omega arith) (rw add-one (o .1)) (skips-other s from i (omega arith) (eqb-false _ _ (o .0)) before))
+
+pub skips-block : (s : List ℕ) (from i : ℕ) → 16 ≤ length s - i → (found : Bool) → found ≡ hasMark (take (i + 16 - i) (drop i s)) → found ≡ false
+    → Skips s from i → Skips s from (i + 16)
+skips-block s from i h found is e before = skips-unmarked s from i 16 (omega arith) (rw add-sub-cancel-left at (sym is ∙ e)) before
+
+-- ---- a seek that goes on behind them
+
+pub seek-passes : (s v : List ℕ) (at to : ℕ) → Skips s at to → seek front (s ++ v) ≡ beyond at (seek front (drop at (s ++ v)))
+    → seek front (s ++ v) ≡ beyond to (seek front (drop to (s ++ v)))
+seek-passes s v at to k inv =
+    let a : drop at (s ++ v) ≡ drop at s ++ v = drop-append-le at s v (omega (arith, k .forward, k .inside)) in
+    let b : drop to (s ++ v) ≡ drop to s ++ v = drop-append-le to s v (k .inside) in
+    let n : at + (to - at) ≡ to = omega (arith, k .forward) in
+    rw (n, ← b) at (rw a at inv ∙ ap (beyond at) (k .sought v) ∙ beyond-beyond at (to - at) (seek front (drop to s ++ v)))
+
+pub seek-passes-here : (s : List ℕ) (at to : ℕ) → Skips s at to → seek front s ≡ beyond at (seek front (drop at s)) → seek front s ≡ beyond to (seek front (drop to s))
+seek-passes-here s at to k inv = rw append-nil at (seek-passes s [] at to k (rw append-nil inv))

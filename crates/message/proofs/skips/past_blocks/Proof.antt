@@ -1,0 +1,69 @@
+-- `message::skips::past_blocks` meets its contract. The invariant: what is before `i` is skipped.
+use Prim.Native.Nat.{_-_}
+use lib.ListN.{length}
+use borrow.Author.Needs.{needs}
+use Rattle.message.specs.Skips.{Skips}
+use Rattle.message.proofs.Skipped.{skips-none, skips-block}
+use Rattle.message.proofs.skips.past_blocks.Statement.{statement}
+use Rattle.message.proofs.skips.past_blocks.Tie as tie
+
+abbrev Inv-loop : tie.InvT-loop
+Inv-loop s from i₀ i = Skips s from i
+
+abbrev μ-loop : tie.MeasureT-loop
+μ-loop s from i₀ i = length s - i
+
+loop-holds : tie.Need-loop-holds Inv-loop μ-loop
+loop-holds c = search (skips-none, needs)
+
+sub-loop : tie.Need-sub-loop Inv-loop μ-loop
+sub-loop c = search needs
+
+add-has-mark : tie.Need-add-has-mark Inv-loop μ-loop
+add-has-mark c = search needs
+
+sub-has-mark : tie.Need-sub-has-mark Inv-loop μ-loop
+sub-has-mark c = search needs
+
+part-has-mark-start : tie.Need-part-has-mark-start Inv-loop μ-loop
+part-has-mark-start c = search needs
+
+part-has-mark-end : tie.Need-part-has-mark-end Inv-loop μ-loop
+part-has-mark-end c = search needs
+
+has-mark-requires : tie.Need-has-mark-requires Inv-loop μ-loop
+has-mark-requires c κs = search needs
+
+returns : tie.Need-returns Inv-loop μ-loop
+returns c = search needs
+
+add-i : tie.Need-add-i Inv-loop μ-loop
+add-i c = search needs
+
+loop-less : tie.Need-loop-less Inv-loop μ-loop
+loop-less c = search needs
+
+loop-again : tie.Need-loop-again Inv-loop μ-loop
+loop-again c = search (skips-block, needs)
+
+returns-2 : tie.Need-returns-2 Inv-loop μ-loop
+returns-2 c = search needs
+
+pub past-blocks-spec : {M : Type 1} → statement M
+past-blocks-spec =
+    tie.close
+    (tie.spec
+    Inv-loop
+    μ-loop
+    loop-holds
+    sub-loop
+    add-has-mark
+    sub-has-mark
+    part-has-mark-start
+    part-has-mark-end
+    has-mark-requires
+    returns
+    add-i
+    loop-less
+    loop-again
+    returns-2)

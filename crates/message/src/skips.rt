@@ -1,0 +1,81 @@
+// Bytes that the scan skips whatever follows them: noise, and a run of A5 but for its last two. A loop of its own for each, since a
+// loop with a message's tests in it is slower.
+ghost use mathlib.Core.Path.{_≡_};
+ghost use Prim.Native.Nat.{_≤_};
+ghost use lib.ListN.{length};
+ghost use Rattle.message.specs.Skips.{hasMark, Skips};
+
+// Whether one of the bytes is A5. There is no branch out of the loop, so that a block of fixed length is tested at once.
+fn has_mark(block: &[u8]) -> bool
+    ensures { λ r. ⌜ r ≡ hasMark (now (block .entry)) ⌝ }
+{
+    let mut found = false;
+    let mut i = 0;
+    while i < block.len() {
+        found = found | (block[i] == 0xA5);
+        i += 1;
+    }
+    found
+}
+
+// From `from` on, past as many blocks of 16 bytes as have no A5.
+fn past_blocks(s: &[u8], from: usize) -> usize
+    requires { ⌜ from ≤ length (now s) ⌝ }
+    ensures { λ r. ⌜ Skips (now (s .entry)) from r ⌝ }
+{
+    let mut i = from;
+    while 16 <= s.len() - i {
+        if has_mark(&s[i..i + 16]) {
+            return i;
+        }
+        i += 16;
+    }
+    i
+}
+
+// The next A5 from `from` on, or the end.
+fn next_mark(s: &[u8], from: usize) -> usize
+    requires { ⌜ from ≤ length (now s) ⌝ }
+    ensures { λ r. ⌜ Skips (now (s .entry)) from r ⌝ }
+{
+    let mut i = past_blocks(s, from);
+    while i < s.len() {
+        if s[i] == 0xA5 {
+            return i;
+        }
+        i += 1;
+    }
+    i
+}
+
+// The last two bytes of a run of A5 from `from` on, or `from` where no two A5 stand. Each byte of the run is looked at once.
+fn past_run(s: &[u8], from: usize) -> usize
+    requires { ⌜ from ≤ length (now s) ⌝ }
+    ensures { λ r. ⌜ Skips (now (s .entry)) from r ⌝ }
+{
+    if s.len() - from < 2 {
+        return from;
+    }
+    if s[from] != 0xA5 {
+        return from;
+    }
+    if s[from + 1] != 0xA5 {
+        return from;
+    }
+    let mut i = from;
+    while i + 2 < s.len() {
+        if s[i + 2] != 0xA5 {
+            return i;
+        }
+        i += 1;
+    }
+    i
+}
+
+// The next place from `from` on that has to be looked at.
+pub(crate) fn past_skips(s: &[u8], from: usize) -> usize
+    requires { ⌜ from ≤ length (now s) ⌝ }
+    ensures { λ r. ⌜ Skips (now (s .entry)) from r ⌝ }
+{
+    past_run(s, next_mark(s, from))
+}
