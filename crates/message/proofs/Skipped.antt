@@ -4,12 +4,12 @@ use native.Mathlib.Omega.{arith}
 use native.Mathlib.Numerals.{add-one}
 use native.Mathlib.Nat.{add-zero, add-sub-cancel-left}
 use mathlib.Core.Path.{_≡_, refl, ap, _∙_, sym}
-use mathlib.Core.Bool.{Bool, true, false, _||_, or-assoc, or-false}
+use mathlib.Core.Bool.{Bool, true, false, _||_, Bool·beq, or-assoc, or-false}
 use mathlib.Core.List.{List, [], _++_, append-nil}
 use lib.Dec.{eqb}
 use lib.ListN.{length, take, drop, getD, length-drop, length-append, List·getD-append, drop-of-length-le}
 use lib.Seq.{getD-drop, drop-append-le, drop-cons, drop-drop}
-use borrow.Author.Tests.{eq-eqb, eqb-false}
+use borrow.Author.Tests.{eq-eqb, eqb-true, eqb-false}
 use Rattle.stream.specs.declared.Verdict.the-variants.{Skip}
 use Rattle.stream.specs.declared.Sought.{Sought}
 use Rattle.stream.specs.declared.Sought.the-variants.{Starved, Found}
@@ -17,7 +17,7 @@ use Rattle.stream.specs.Seek.{beyond, seek}
 use Rattle.stream.proofs.Bools.{or-neither}
 use Rattle.stream.proofs.Seeks.{seek-starts, seek-skips, beyond-zero}
 use Rattle.message.specs.Front.{opens, front}
-use Rattle.message.specs.Skips.{hasMark, Skips}
+use Rattle.message.specs.Skips.{hasByte, Skips, RunAt}
 use Rattle.message.proofs.Openings.{opens-first, opens-bytes, front-skip}
 
 beyond-beyond : (a b : ℕ) (r : Sought) → beyond a (beyond b r) ≡ beyond (a + b) r
@@ -79,29 +79,65 @@ module _ (s : List ℕ) where
           opens-bytes (drop i s ++ v) (rw (length-append, length-drop) (omega arith))
           ∙ rw (is 0 v (omega arith) (rw add-zero x), is 1 v (omega arith) y, is 2 v h z)
 
-pub run-next : (w : List ℕ) (i : ℕ) → getD w (i + 2) 0 ≡ 0xA5 → getD w (i + 1 + 1) 0 ≡ 0xA5
-run-next w i e = let k : i + 2 ≡ i + 1 + 1 = omega arith in rw k at e
+-- A run of A5.
+pub run-starts : (s : List ℕ) (from : ℕ) → 2 ≤ length s - from → getD s from 0 ≡ 0xA5 → getD s (from + 1) 0 ≡ 0xA5 → RunAt s from from
+run-starts s from h x y = record { room = omega arith; first = x; second = y; before = skips-none s from (omega arith) }
+
+pub run-more : (s : List ℕ) (from i : ℕ) → i + 2 < length s → getD s (i + 2) 0 ≡ 0xA5 → RunAt s from i → RunAt s from (i + 1)
+run-more s from i h z run =
+    let k : i + 2 ≡ i + 1 + 1 = omega arith in
+    record { room = omega arith; first = run .second; second = rw k at z; before = skips-stray s from i h (run .first) (run .second) z (run .before) }
+
+pub run-skips : (s : List ℕ) (from i : ℕ) → RunAt s from i → Skips s from i
+run-skips s from i run = run .before
 
 -- ---- blocks
 
-module _ (b : List ℕ) (i : ℕ) (found : Bool) (inv : hasMark b ≡ found || hasMark (drop i b)) where
-  pub mark-more : i < length b → hasMark b ≡ (found || eqb (getD b i 0) 0xA5) || hasMark (drop (i + 1) b)
-  mark-more h = inv ∙ rw (drop-cons b i 0 h, add-one, or-assoc)
+module _ (mark : Bool) (b : List ℕ) (i : ℕ) (found : Bool) (inv : hasByte mark b ≡ found || hasByte mark (drop i b)) where
+  pub byte-more : i < length b → hasByte mark b ≡ (found || Bool·beq (eqb (getD b i 0) 0xA5) mark) || hasByte mark (drop (i + 1) b)
+  byte-more h = inv ∙ rw (drop-cons b i 0 h, add-one, or-assoc)
 
-  pub mark-all : length b ≤ i → found ≡ hasMark b
-  mark-all h = sym (inv ∙ rw (drop-of-length-le b h, or-false))
+  pub byte-all : length b ≤ i → found ≡ hasByte mark b
+  byte-all h = sym (inv ∙ rw (drop-of-length-le b h, or-false))
 
-skips-unmarked : (s : List ℕ) (from i n : ℕ) → i + n ≤ length s → hasMark (take n (drop i s)) ≡ false → Skips s from i → Skips s from (i + n)
+-- A block of n bytes without such a byte: its first is not one, and the rest has none.
+block-cons : (mark : Bool) (s : List ℕ) (i n : ℕ) → i < length s → hasByte mark (take (suc n) (drop i s)) ≡ false
+    → (Bool·beq (eqb (getD s i 0) 0xA5) mark ≡ false) × (hasByte mark (take n (drop (i + 1) s)) ≡ false)
+block-cons mark s i n h e =
+    rw add-one (or-neither (Bool·beq (eqb (getD s i 0) 0xA5) mark) (hasByte mark (take n (drop (suc i) s))) (rw (drop-cons s i 0 h) at e))
+
+beq-true : (b : Bool) → Bool·beq b true ≡ false → b ≡ false
+beq-true true e = e
+beq-true false e = refl
+
+beq-false : (b : Bool) → Bool·beq b false ≡ false → b ≡ true
+beq-false true e = refl
+beq-false false e = sym e
+
+skips-unmarked : (s : List ℕ) (from i n : ℕ) → i + n ≤ length s → hasByte true (take n (drop i s)) ≡ false → Skips s from i → Skips s from (i + n)
 skips-unmarked s from i zero h e before = rw add-zero before
 skips-unmarked s from i (suc n) h e before =
-    let o = or-neither (eqb (getD s i 0) 0xA5) (hasMark (take n (drop (suc i) s))) (rw (drop-cons s i 0 (omega arith)) at e) in
+    let b = block-cons true s i n (omega arith) e in
     let k : i + 1 + n ≡ i + suc n = omega arith in
-    rw k
-    at (skips-unmarked s from (i + 1) n (omega arith) (rw add-one (o .1)) (skips-other s from i (omega arith) (eqb-false _ _ (o .0)) before))
+    rw k at (skips-unmarked s from (i + 1) n (omega arith) (b .1) (skips-other s from i (omega arith) (eqb-false _ _ (beq-true _ (b .0))) before))
 
-pub skips-block : (s : List ℕ) (from i : ℕ) → 16 ≤ length s - i → (found : Bool) → found ≡ hasMark (take (i + 16 - i) (drop i s)) → found ≡ false
+pub skips-block : (s : List ℕ) (from i : ℕ) → 16 ≤ length s - i → (found : Bool) → found ≡ hasByte true (take (i + 16 - i) (drop i s)) → found ≡ false
     → Skips s from i → Skips s from (i + 16)
 skips-block s from i h found is e before = skips-unmarked s from i 16 (omega arith) (rw add-sub-cancel-left at (sym is ∙ e)) before
+
+run-unbroken : (s : List ℕ) (from i n : ℕ) → i + 2 + n ≤ length s → hasByte false (take n (drop (i + 2) s)) ≡ false → RunAt s from i → RunAt s from (i + n)
+run-unbroken s from i zero h e run = rw add-zero run
+run-unbroken s from i (suc n) h e run =
+    let b = block-cons false s (i + 2) n (omega arith) e in
+    let j : i + 2 + 1 ≡ i + 1 + 2 = omega arith in
+    let k : i + 1 + n ≡ i + suc n = omega arith in
+    rw k at (run-unbroken s from (i + 1) n (omega arith) (rw j at (b .1)) (run-more s from i (omega arith) (eqb-true _ _ (beq-false _ (b .0))) run))
+
+pub run-block : (s : List ℕ) (from i : ℕ) → 18 ≤ length s - i → (found : Bool) → found ≡ hasByte false (take (i + 18 - (i + 2)) (drop (i + 2) s)) → found ≡ false
+    → RunAt s from i → RunAt s from (i + 16)
+run-block s from i h found is e run =
+    let k : i + 18 - (i + 2) ≡ 16 = omega arith in
+    run-unbroken s from i 16 (omega arith) (rw k at (sym is ∙ e)) run
 
 -- ---- a seek that goes on behind them
 

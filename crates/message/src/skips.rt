@@ -3,16 +3,17 @@
 ghost use mathlib.Core.Path.{_≡_};
 ghost use Prim.Native.Nat.{_≤_};
 ghost use lib.ListN.{length};
-ghost use Rattle.message.specs.Skips.{hasMark, Skips};
+ghost use Rattle.message.specs.Skips.{hasByte, Skips, RunAt};
 
-// Whether one of the bytes is A5. There is no branch out of the loop, so that a block of fixed length is tested at once.
-fn has_mark(block: &[u8]) -> bool
-    ensures { λ r. ⌜ r ≡ hasMark (now (block .entry)) ⌝ }
+// Whether one of the bytes is A5, or with `mark` false whether one is not. There is no branch out of the loop, so that a block of
+// fixed length is tested at once.
+fn has_byte(block: &[u8], mark: bool) -> bool
+    ensures { λ r. ⌜ r ≡ hasByte mark (now (block .entry)) ⌝ }
 {
     let mut found = false;
     let mut i = 0;
     while i < block.len() {
-        found = found | (block[i] == 0xA5);
+        found = found | ((block[i] == 0xA5) == mark);
         i += 1;
     }
     found
@@ -25,7 +26,7 @@ fn past_blocks(s: &[u8], from: usize) -> usize
 {
     let mut i = from;
     while 16 <= s.len() - i {
-        if has_mark(&s[i..i + 16]) {
+        if has_byte(&s[i..i + 16], true) {
             return i;
         }
         i += 16;
@@ -48,7 +49,22 @@ fn next_mark(s: &[u8], from: usize) -> usize
     i
 }
 
-// The last two bytes of a run of A5 from `from` on, or `from` where no two A5 stand. Each byte of the run is looked at once.
+// From two A5 at `from` on, past as many blocks of 16 bytes as the run of A5 goes on for.
+fn past_run_blocks(s: &[u8], from: usize) -> usize
+    requires { ⌜ RunAt (now s) from from ⌝ }
+    ensures { λ r. ⌜ RunAt (now (s .entry)) from r ⌝ }
+{
+    let mut i = from;
+    while 18 <= s.len() - i {
+        if has_byte(&s[i + 2..i + 18], false) {
+            return i;
+        }
+        i += 16;
+    }
+    i
+}
+
+// The last two bytes of a run of A5 from `from` on, or `from` where no two A5 stand.
 fn past_run(s: &[u8], from: usize) -> usize
     requires { ⌜ from ≤ length (now s) ⌝ }
     ensures { λ r. ⌜ Skips (now (s .entry)) from r ⌝ }
@@ -62,7 +78,7 @@ fn past_run(s: &[u8], from: usize) -> usize
     if s[from + 1] != 0xA5 {
         return from;
     }
-    let mut i = from;
+    let mut i = past_run_blocks(s, from);
     while i + 2 < s.len() {
         if s[i + 2] != 0xA5 {
             return i;

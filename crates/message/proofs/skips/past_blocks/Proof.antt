@@ -19,20 +19,20 @@ loop-holds c = search (skips-none, needs)
 sub-loop : tie.Need-sub-loop Inv-loop μ-loop
 sub-loop c = search needs
 
-add-has-mark : tie.Need-add-has-mark Inv-loop μ-loop
-add-has-mark c = search needs
+add-has-byte : tie.Need-add-has-byte Inv-loop μ-loop
+add-has-byte c = search needs
 
-sub-has-mark : tie.Need-sub-has-mark Inv-loop μ-loop
-sub-has-mark c = search needs
+sub-has-byte : tie.Need-sub-has-byte Inv-loop μ-loop
+sub-has-byte c = search needs
 
-part-has-mark-start : tie.Need-part-has-mark-start Inv-loop μ-loop
-part-has-mark-start c = search needs
+part-has-byte-start : tie.Need-part-has-byte-start Inv-loop μ-loop
+part-has-byte-start c = search needs
 
-part-has-mark-end : tie.Need-part-has-mark-end Inv-loop μ-loop
-part-has-mark-end c = search needs
+part-has-byte-end : tie.Need-part-has-byte-end Inv-loop μ-loop
+part-has-byte-end c = search needs
 
-has-mark-requires : tie.Need-has-mark-requires Inv-loop μ-loop
-has-mark-requires c κs = search needs
+has-byte-requires : tie.Need-has-byte-requires Inv-loop μ-loop
+has-byte-requires c κs = search needs
 
 returns : tie.Need-returns Inv-loop μ-loop
 returns c = search needs
@@ -57,11 +57,11 @@ past-blocks-spec =
     μ-loop
     loop-holds
     sub-loop
-    add-has-mark
-    sub-has-mark
-    part-has-mark-start
-    part-has-mark-end
-    has-mark-requires
+    add-has-byte
+    sub-has-byte
+    part-has-byte-start
+    part-has-byte-end
+    has-byte-requires
     returns
     add-i
     loop-less

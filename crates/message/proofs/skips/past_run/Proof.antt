@@ -1,15 +1,14 @@
 -- `message::skips::past_run` meets its contract. The invariant: two A5 stand at `i`, and what is before it is skipped.
-use Prim.Native.Nat.{_+_, _-_, _≤_}
-use mathlib.Core.Path.{_≡_}
-use lib.ListN.{length, getD}
+use Prim.Native.Nat.{_-_}
+use lib.ListN.{length}
 use borrow.Author.Needs.{needs}
-use Rattle.message.specs.Skips.{Skips}
-use Rattle.message.proofs.Skipped.{skips-none, skips-stray, run-next}
+use Rattle.message.specs.Skips.{RunAt}
+use Rattle.message.proofs.Skipped.{skips-none, run-starts, run-more, run-skips}
 use Rattle.message.proofs.skips.past_run.Statement.{statement}
 use Rattle.message.proofs.skips.past_run.Tie as tie
 
 abbrev Inv-loop : tie.InvT-loop
-Inv-loop s from i₀ i = (i + 2 ≤ length s) × (getD s i 0 ≡ 0xA5) × (getD s (i + 1) 0 ≡ 0xA5) × Skips s from i
+Inv-loop s from i₀ i = RunAt s from i
 
 abbrev μ-loop : tie.MeasureT-loop
 μ-loop s from i₀ i = length s - i
@@ -35,8 +34,11 @@ shared-slice-read-if3 c = search needs
 returns-3 : tie.Need-returns-3 Inv-loop μ-loop
 returns-3 c = search (skips-none, needs)
 
+past-run-blocks-requires : tie.Need-past-run-blocks-requires Inv-loop μ-loop
+past-run-blocks-requires c κs = search (run-starts, needs)
+
 loop-holds : tie.Need-loop-holds Inv-loop μ-loop
-loop-holds c = search (skips-none, needs)
+loop-holds c = search needs
 
 add-loop : tie.Need-add-loop Inv-loop μ-loop
 add-loop c = search needs
@@ -48,7 +50,7 @@ shared-slice-read-if4 : tie.Need-shared-slice-read-if4 Inv-loop μ-loop
 shared-slice-read-if4 c = search needs
 
 returns-4 : tie.Need-returns-4 Inv-loop μ-loop
-returns-4 c = search needs
+returns-4 c = search (run-skips, needs)
 
 add-i : tie.Need-add-i Inv-loop μ-loop
 add-i c = search needs
@@ -57,10 +59,10 @@ loop-less : tie.Need-loop-less Inv-loop μ-loop
 loop-less c = search needs
 
 loop-again : tie.Need-loop-again Inv-loop μ-loop
-loop-again c = search (skips-stray, run-next, needs)
+loop-again c = search (run-more, needs)
 
 returns-5 : tie.Need-returns-5 Inv-loop μ-loop
-returns-5 c = search needs
+returns-5 c = search (run-skips, needs)
 
 pub past-run-spec : {M : Type 1} → statement M
 past-run-spec =
@@ -75,6 +77,7 @@ past-run-spec =
     add-if3
     shared-slice-read-if3
     returns-3
+    past-run-blocks-requires
     loop-holds
     add-loop
     add-if4

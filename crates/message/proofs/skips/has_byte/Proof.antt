@@ -1,19 +1,19 @@
--- `message::skips::has_mark` meets its contract. The invariant: an A5 is among the bytes where one was found or one is in the rest.
+-- `message::skips::has_byte` meets its contract. The invariant: such a byte is there where one was found or one is in the rest.
 use Prim.Native.Nat.{_-_}
 use mathlib.Core.Path.{_≡_}
 use mathlib.Core.Bool.{_||_}
 use lib.ListN.{length, drop}
 use borrow.Author.Needs.{needs}
-use Rattle.message.specs.Skips.{hasMark}
-use Rattle.message.proofs.Skipped.{mark-more, mark-all}
-use Rattle.message.proofs.skips.has_mark.Statement.{statement}
-use Rattle.message.proofs.skips.has_mark.Tie as tie
+use Rattle.message.specs.Skips.{hasByte}
+use Rattle.message.proofs.Skipped.{byte-more, byte-all}
+use Rattle.message.proofs.skips.has_byte.Statement.{statement}
+use Rattle.message.proofs.skips.has_byte.Tie as tie
 
 abbrev Inv-loop : tie.InvT-loop
-Inv-loop block found₀ i₀ found i = hasMark block ≡ found || hasMark (drop i block)
+Inv-loop block mark found₀ i₀ found i = hasByte mark block ≡ found || hasByte mark (drop i block)
 
 abbrev μ-loop : tie.MeasureT-loop
-μ-loop block found₀ i₀ found i = length block - i
+μ-loop block mark found₀ i₀ found i = length block - i
 
 loop-holds : tie.Need-loop-holds Inv-loop μ-loop
 loop-holds c = search needs
@@ -28,13 +28,13 @@ loop-less : tie.Need-loop-less Inv-loop μ-loop
 loop-less c = search needs
 
 loop-again : tie.Need-loop-again Inv-loop μ-loop
-loop-again c = search (mark-more, needs)
+loop-again c = search (byte-more, needs)
 
 returns : tie.Need-returns Inv-loop μ-loop
-returns c = search (mark-all, needs)
+returns c = search (byte-all, needs)
 
-pub has-mark-spec : {M : Type 1} → statement M
-has-mark-spec =
+pub has-byte-spec : {M : Type 1} → statement M
+has-byte-spec =
     tie.close
     (tie.spec
     Inv-loop
