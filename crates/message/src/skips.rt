@@ -78,14 +78,14 @@ fn past_run(s: &[u8], from: usize) -> usize
     if s[from + 1] != 0xA5 {
         return from;
     }
-    let mut i = past_run_blocks(s, from);
-    while i + 2 < s.len() {
-        if s[i + 2] != 0xA5 {
-            return i;
+    let mut at = past_run_blocks(s, from);
+    while at + 2 < s.len() {
+        if s[at + 2] != 0xA5 {
+            return at;
         }
-        i += 1;
+        at += 1;
     }
-    i
+    at
 }
 
 // The next place from `from` on that has to be looked at.

@@ -1,4 +1,5 @@
--- `message::header::opening_over` meets its contract: each `return` is a case of what the bytes tell.
+-- `message::header::opening_over` meets its contract: each `return` is a case of what the bytes tell. `fits`: the search may take so
+-- many steps, so that a wrong program is refused only after every way was tried.
 use Rattle.message.proofs.Openings.{told-none, told-first, told-one, told-second, told-third, told-short, told-complete}
 use borrow.Author.Needs.{needs}
 use Rattle.message.proofs.header.opening_over.Statement.{statement}
@@ -29,7 +30,7 @@ byte-over-requires-3 : tie.Need-byte-over-requires-3
 byte-over-requires-3 c κs = search needs
 
 returns-5 : tie.Need-returns-5
-returns-5 c = search (told-third, needs)
+returns-5 c = search (told-third, needs) fits 100000
 
 byte-over-requires-4 : tie.Need-byte-over-requires-4
 byte-over-requires-4 c κs = search needs
@@ -38,10 +39,10 @@ size-from-requires : tie.Need-size-from-requires
 size-from-requires c κs = search needs
 
 returns-6 : tie.Need-returns-6
-returns-6 c = search (told-short, needs)
+returns-6 c = search (told-short, needs) fits 100000
 
 returns-7 : tie.Need-returns-7
-returns-7 c = search (told-complete, needs)
+returns-7 c = search (told-complete, needs) fits 100000
 
 pub opening-over-spec : {M : Type 1} → statement M
 opening-over-spec =

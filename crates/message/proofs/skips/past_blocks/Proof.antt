@@ -44,7 +44,10 @@ loop-less : tie.Need-loop-less Inv-loop μ-loop
 loop-less c = search needs
 
 loop-again : tie.Need-loop-again Inv-loop μ-loop
-loop-again c = search (skips-block, needs)
+loop-again c =
+    let inside = c .before .before .before in
+    let at = inside .before in
+    skips-block (at .before .before .args .s .now) _ (at .loop .i) (inside .loop-test .taken) _ (c .before .has-byte .ensures) (c .if1 .left) (at .loop .inv)
 
 returns-2 : tie.Need-returns-2 Inv-loop μ-loop
 returns-2 c = search needs

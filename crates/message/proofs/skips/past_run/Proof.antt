@@ -1,4 +1,4 @@
--- `message::skips::past_run` meets its contract. The invariant: two A5 stand at `i`, and what is before it is skipped.
+-- `message::skips::past_run` meets its contract. The invariant: two A5 stand at `at`, and what is before it is skipped.
 use Prim.Native.Nat.{_-_}
 use lib.ListN.{length}
 use borrow.Author.Needs.{needs}
@@ -8,10 +8,10 @@ use Rattle.message.proofs.skips.past_run.Statement.{statement}
 use Rattle.message.proofs.skips.past_run.Tie as tie
 
 abbrev Inv-loop : tie.InvT-loop
-Inv-loop s from i₀ i = RunAt s from i
+Inv-loop s from at₀ at = RunAt s from at
 
 abbrev μ-loop : tie.MeasureT-loop
-μ-loop s from i₀ i = length s - i
+μ-loop s from at₀ at = length s - at
 
 sub-if1 : tie.Need-sub-if1 Inv-loop μ-loop
 sub-if1 c = search needs
@@ -52,8 +52,8 @@ shared-slice-read-if4 c = search needs
 returns-4 : tie.Need-returns-4 Inv-loop μ-loop
 returns-4 c = search (run-skips, needs)
 
-add-i : tie.Need-add-i Inv-loop μ-loop
-add-i c = search needs
+add-at : tie.Need-add-at Inv-loop μ-loop
+add-at c = search needs
 
 loop-less : tie.Need-loop-less Inv-loop μ-loop
 loop-less c = search needs
@@ -83,7 +83,7 @@ past-run-spec =
     add-if4
     shared-slice-read-if4
     returns-4
-    add-i
+    add-at
     loop-less
     loop-again
     returns-5)

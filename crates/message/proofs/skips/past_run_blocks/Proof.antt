@@ -50,7 +50,7 @@ loop-again : tie.Need-loop-again Inv-loop μ-loop
 loop-again c =
     let inside = c .before .before .before in
     let at = inside .before in
-    run-block (at .before .before .args .s .now) _ (at .loop .i) (inside .loop-test .taken) (c .before .has-byte .result) (c .before .has-byte .ensures) (c .if1 .left) (at .loop .inv)
+    run-block (at .before .before .args .s .now) _ (at .loop .i) (inside .loop-test .taken) _ (c .before .has-byte .ensures) (c .if1 .left) (at .loop .inv)
 
 returns-2 : tie.Need-returns-2 Inv-loop μ-loop
 returns-2 c = search needs
