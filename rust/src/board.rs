@@ -125,7 +125,8 @@ impl Board {
     }
 
     /// Feeds a chunk to port 0 or 1: takes bytes up to the end of the first message, handles it and writes its reply to
-    /// the room's front, or takes the whole chunk where there is none. A save writes the page.
+    /// the room's front, or takes the whole chunk where there is none. A save writes the page. Bytes that open no
+    /// message are skipped without a reply; so are stray A5 in front of one.
     ///
     /// Refuses with [`Refusal::Port`], [`Refusal::Unsound`], [`Refusal::Room`], [`Refusal::PageLength`] and
     /// [`Refusal::Page`], the first that applies; the board is then as it was.
@@ -140,9 +141,10 @@ impl Board {
     /// let mut room = [0; Board::REPLY];
     /// let mut replies = Vec::new();
     ///
-    /// // A Ping with a wrong sum, then function 3 of the baud rate, which saves it.
+    /// // A Ping with a wrong sum, a stray A5, then function 3 of the baud rate, which saves it.
     /// let mut chunk: &[u8] = &[
     ///     0xA5, 0xA5, 0x01, 0x02, 0x02, 0x00, 0x4F, 0x24, // error 1
+    ///     0xA5, // no reply
     ///     0xA5, 0xA5, 0x02, 0x03, 0x01, 0x01, 0x03, 0x54, 0x7F,
     /// ];
     /// loop {

@@ -54,6 +54,8 @@ pub fn check_message(message: &[u8]) -> Result<(), Refusal> {
 
 /// Writes the message of this type and payload to the room's front, and gives its length.
 ///
+/// Any type is written. A board does not find a message of type A5: to it the first byte is a stray one.
+///
 /// Refuses with [`Refusal::Payload`] and [`Refusal::Room`].
 ///
 /// ```

@@ -41,7 +41,7 @@ fn sample_lines() {
         ("A5A502030801025A93", vec!["A5A5020780020800080103E9A4"]),
         ("A5A501004B85", vec!["A5A5010480020003D4CE"]),
         ("A5A5010202004F24", vec!["A5A5010480020201D4D0"]),
-        ("A5 A5A5010202004F25", vec!["A5A5A5048002020178A8", "A5A5010480020200D3CF"]),
+        ("A5 A5A5010202004F25", vec!["A5A5010480020200D3CF"]),
         ("A5A502040802010863FB", vec!["A5A5020480020804DEE5"]),
         ("A5A503020200512D", vec!["A5A5030480020202D7DD"]),
         ("", vec![]),
@@ -65,6 +65,35 @@ fn damaged_ping() {
     assert_eq!(board.first.held, 7);
     assert_eq!(board.feed(0, &[], &mut room, &mut page), Ok(Outcome::UsedUp { taken: 0, skipped: 7 }));
     assert_eq!(board, fresh().0);
+}
+
+/// P7: a stray A5 is skipped, and so is a run of them; A5 A5 alone is held.
+#[test]
+fn stray_bytes() {
+    let ping = hex("A5A5010202004F25");
+    for run in 1..=300 {
+        let (mut board, mut page) = fresh();
+        let mut room = [0; 16];
+        let outcome = board.feed(0, &[vec![0xA5; run], ping.clone()].concat(), &mut room, &mut page);
+        assert_eq!(outcome, Ok(Outcome::Reported { taken: run + 8, skipped: run, saved: false, reply: 10 }));
+        assert_eq!(room[..10], hex("A5A5010480020200D3CF"));
+        assert_eq!(board, fresh().0);
+
+        let outcome = board.feed(1, &vec![0xA5; run], &mut room, &mut page);
+        assert_eq!(outcome, Ok(Outcome::UsedUp { taken: run, skipped: run.saturating_sub(2) }));
+        assert_eq!(board.second.held, run.min(2));
+    }
+}
+
+/// A message of type A5 is written and checked, but a board does not find it. Here it finds what begins at the second
+/// A5, a good message of type 03.
+#[test]
+fn type_a5() {
+    let mut message = [0; 9];
+    assert_eq!(write_message(0xA5, &[0x00, 0x4D, 0x89], &mut message), Ok(9));
+    assert_eq!(check_message(&message), Ok(()));
+    let (mut board, mut page) = fresh();
+    assert_eq!(replies(&mut board, &message, &mut page), [hex("A5A5030480020002D5D9")]);
 }
 
 /// P8 and P12: saves.

@@ -1,4 +1,4 @@
-//! Six generated files.
+//! Seven generated files.
 
 use plain::generate::{self, Rng};
 
@@ -9,19 +9,28 @@ pub enum File {
     ShortCommands,
     /// Data messages of 34 bytes.
     DataMessages,
-    /// Messages of 261 bytes.
+    /// Messages of 261 bytes. About one in fifty is of type A5, which the scan does not find.
     LongMessages,
     /// Messages of all kinds, damage and noise.
     Mix,
     /// Random bytes.
     Noise,
-    /// Runs of 1 to 300 A5, with a few other bytes between.
+    /// Runs of 1 to 300 A5, with a few other bytes between: nearly all of it is skipped.
     Runs,
+    /// The mix without runs: no piece that has three A5 in a row, or that ends with an A5.
+    MixWithoutRuns,
 }
 
 impl File {
-    pub const ALL: [File; 6] =
-        [File::ShortCommands, File::DataMessages, File::LongMessages, File::Mix, File::Noise, File::Runs];
+    pub const ALL: [File; 7] = [
+        File::ShortCommands,
+        File::DataMessages,
+        File::LongMessages,
+        File::Mix,
+        File::Noise,
+        File::Runs,
+        File::MixWithoutRuns,
+    ];
 
     pub fn name(self) -> &'static str {
         match self {
@@ -31,6 +40,7 @@ impl File {
             File::Mix => "mix",
             File::Noise => "noise",
             File::Runs => "runs of A5",
+            File::MixWithoutRuns => "mix without runs",
         }
     }
 
@@ -48,6 +58,12 @@ impl File {
                 run.extend(rng.bytes(count));
                 run
             }
+            File::MixWithoutRuns => loop {
+                let piece = generate::piece(rng);
+                if !piece.windows(3).any(|three| three == [0xA5; 3]) && piece.last() != Some(&0xA5) {
+                    break piece;
+                }
+            },
         }
     }
 

@@ -1,4 +1,4 @@
-//! What the benchmark runs: six generated files, the library, and a scanner written for the purpose.
+//! What the benchmark runs: seven generated files, the library, and a scanner written for the purpose.
 
 #![forbid(unsafe_code)]
 

@@ -1,4 +1,4 @@
-//! The library against a scanner written for the purpose, on six generated files; and, if it is built, the program that
+//! The library against a scanner written for the purpose, on seven generated files; and, if it is built, the program that
 //! lists a recording against the same scanner as a program. All are given pieces of 32 KiB.
 //!
 //! All runs are interleaved, and the smallest times count. `RUNS` changes how many there are.
@@ -130,7 +130,7 @@ fn print(file: File, times: &Times, counts: Counts) {
 fn main() -> ExitCode {
     let runs = std::env::var("RUNS").map_or(5, |text| text.parse().expect("RUNS is a number"));
     let lister = lister();
-    println!("six files of 16 MiB in pieces of 32 KiB, the smallest of {runs} runs, in ms");
+    println!("seven files of 16 MiB in pieces of 32 KiB, the smallest of {runs} runs, in ms");
     println!("library and scanner: in process, the smallest for each MiB; lister and scanner: programs of their own");
     print!(
         "{:<18} {:>9} {:>9} | {:>9} {:>9} {:>6} {:>9}",

@@ -51,6 +51,13 @@ fn scan(row: &[u8], counts: &mut Counts) -> usize {
             at += 1;
             continue;
         }
+        if rest.len() > 2 && rest[2] == 0xA5 {
+            // A run, of which the last two may open a message; those before them are passed over at once.
+            let stray = rest.iter().position(|&byte| byte != 0xA5).unwrap_or(rest.len()) - 2;
+            counts.skipped += stray as u64;
+            at += stray;
+            continue;
+        }
         if rest.len() < 4 {
             return at;
         }

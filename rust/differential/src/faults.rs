@@ -22,6 +22,13 @@ pub enum Fault {
     OnlyFirstChange,
     // Found in a long stream alone: no other chunk is of 65536 bytes.
     LengthOf16Bits,
+    // Found in runs of A5.
+    StrayReported,
+    TwoSkippedForAStray,
+    RunSkippedWhole,
+    StrayNotCounted,
+    SkippedOf8Bits,
+    TwoA5Decided,
     // Found in the comparison with the reckoning.
     ReckonedSkipped,
     ReckonedHeld,
@@ -96,6 +103,9 @@ impl Calls for Planted {
 
     fn feed(&self, port: u8, board: Board, chunk: &[u8], room: &mut [u8], page: &mut [u8]) -> Fed {
         let page_before = page.to_vec();
+        if let Some(fed) = feed_run(self.0, port, board, chunk, room, page) {
+            return fed;
+        }
         let chunk = if self.is(Fault::LengthOf16Bits) { &chunk[..chunk.len() % 65536] } else { chunk };
         let mut fed = calls::feed(port, board, chunk, room, page);
         match self.0 {
@@ -110,6 +120,9 @@ impl Calls for Planted {
             Fault::PageOfARefusal if fed.number == 18 => page[63] = 0,
             Fault::DamagedDropped if fed.number == 0 && room[7] == 1 && port == 0 => drop_held(&mut fed),
             Fault::OnlyFirstChange if board.settings.gyroscope != 3 => fed.board.settings = board.settings,
+            Fault::StrayNotCounted if fed.skipped > 0 && chunk.starts_with(&[0xA5; 3]) => fed.skipped -= 1,
+            Fault::SkippedOf8Bits => fed.skipped %= 256,
+            Fault::TwoA5Decided if fed.number == 1 && port == 0 => skip_first_of_two(&mut fed),
             Fault::SizeBeforeCode if fed.number == 0 && room[7] == 3 => error_4_for_wrong_size(chunk, room),
             Fault::SentValueSaved if fed.saved && chunk.len() == 10 => save_sent_range(chunk, page),
             Fault::JunkKept if fed.number == 1 && chunk.is_empty() => keep_junk(&mut fed, &board),
@@ -332,6 +345,52 @@ fn has_entry(page: &[u8], code: u8) -> bool {
 fn drop_held(fed: &mut Fed) {
     fed.skipped += fed.board.first.held;
     fed.board.first = Port::new();
+}
+
+/// What a fault answers where three A5 or more are fed to a port that holds nothing; none for the other faults.
+fn feed_run(fault: Fault, port: u8, board: Board, chunk: &[u8], room: &mut [u8], page: &mut [u8]) -> Option<Fed> {
+    let held = [board.first.held, board.second.held];
+    let holds_nothing = held.get(usize::from(port)) == Some(&0);
+    if !holds_nothing || !chunk.starts_with(&[0xA5; 3]) || room.len() < Board::REPLY {
+        return None;
+    }
+    // The first bytes are skipped, whatever they are.
+    let mut feed_behind = |first: usize| {
+        let fed = calls::feed(port, board, &chunk[first..], room, page);
+        Fed { taken: fed.taken + first, skipped: fed.skipped + first, ..fed }
+    };
+    match fault {
+        Fault::StrayReported => report_type_a5(port, board, chunk, room),
+        Fault::TwoSkippedForAStray => Some(feed_behind(2)),
+        Fault::RunSkippedWhole => Some(feed_behind(chunk.iter().take_while(|&&byte| byte == 0xA5).count())),
+        _ => None,
+    }
+}
+
+/// As without request 01: a message of type A5, good or damaged, is reported. None where it is undecided.
+fn report_type_a5(port: u8, mut board: Board, chunk: &[u8], room: &mut [u8]) -> Option<Fed> {
+    let length = usize::from(*chunk.get(3)?) + 6;
+    let message = chunk.get(..length)?;
+    let error = plain::error_of(message);
+    let reply = plain::reply_of(message, error, None);
+    room[..reply.len()].copy_from_slice(&reply);
+    let damaged = error == 1;
+    if damaged {
+        let fed = if port == 0 { &mut board.first } else { &mut board.second };
+        fed.held = length - 1;
+        fed.bytes[..fed.held].copy_from_slice(&message[1..]);
+    }
+    Some(Fed { number: 0, taken: length, skipped: usize::from(damaged), saved: false, board })
+}
+
+/// A front of A5 A5 alone is taken for one with a stray byte.
+fn skip_first_of_two(fed: &mut Fed) {
+    let port = &mut fed.board.first;
+    if port.held == 2 && port.bytes[..2] == [0xA5; 2] {
+        port.bytes[1] = 0;
+        port.held = 1;
+        fed.skipped += 1;
+    }
 }
 
 /// The size byte is compared before the code: 4 where 3 comes first.

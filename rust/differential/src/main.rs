@@ -13,6 +13,7 @@ mod lists;
 mod messages;
 mod pages;
 mod records;
+mod runs;
 mod singles;
 mod wrapper;
 
@@ -32,6 +33,7 @@ enum Group {
     ReckonedLists,
     WrappedLists,
     LongStreams,
+    RunsOfA5,
     Boards,
     Commands,
     Starts,
@@ -46,12 +48,13 @@ enum Group {
     FactoryPages,
 }
 
-const GROUPS: [Group; 17] = [
+const GROUPS: [Group; 18] = [
     Group::Lists,
     Group::HardLists,
     Group::ReckonedLists,
     Group::WrappedLists,
     Group::LongStreams,
+    Group::RunsOfA5,
     Group::Boards,
     Group::Commands,
     Group::Starts,
@@ -75,6 +78,7 @@ impl Group {
             Group::ReckonedLists => 120_000,
             Group::WrappedLists => 40_000,
             Group::LongStreams => 100,
+            Group::RunsOfA5 => 30,
             Group::Boards => 1_500_000,
             Group::Readers => 2_000_000,
             Group::WrittenData => 1_000_000,
@@ -86,7 +90,7 @@ impl Group {
     /// The numbers that must come in it.
     fn numbers(self) -> &'static [u8] {
         match self {
-            Group::Lists | Group::ReckonedLists | Group::WrappedLists => &[0, 1, 16, 18],
+            Group::Lists | Group::ReckonedLists | Group::WrappedLists | Group::RunsOfA5 => &[0, 1, 16, 18],
             Group::HardLists | Group::LongStreams => &[0, 1],
             Group::Boards => &[0, 1, 16, 17, 18, 19, 20],
             Group::Commands => &[0],
@@ -108,6 +112,7 @@ impl Group {
             Group::ReckonedLists => lists::any(calls, rng, Beside::Reckoning, ran),
             Group::WrappedLists => lists::any(calls, rng, Beside::Wrapper, ran),
             Group::LongStreams => lists::long(calls, rng, ran),
+            Group::RunsOfA5 => runs::all(calls, rng, ran),
             Group::Boards => singles::any(calls, rng, ran),
             Group::Commands => singles::commands(calls, rng, ran),
             Group::Starts => singles::starts(calls, rng, ran),
@@ -134,7 +139,7 @@ impl Group {
 }
 
 /// Each planted fault, and the group that is to find it.
-const FAULTS: [(Fault, Group); 50] = [
+const FAULTS: [(Fault, Group); 56] = [
     (Fault::ReplyOfError4, Group::Lists),
     (Fault::RoomPastTheReply, Group::Lists),
     (Fault::SkippedOfHeldMessage, Group::Lists),
@@ -151,6 +156,12 @@ const FAULTS: [(Fault, Group); 50] = [
     (Fault::WrappedRoom, Group::WrappedLists),
     (Fault::WrappedPage, Group::WrappedLists),
     (Fault::LengthOf16Bits, Group::LongStreams),
+    (Fault::StrayReported, Group::RunsOfA5),
+    (Fault::TwoSkippedForAStray, Group::RunsOfA5),
+    (Fault::RunSkippedWhole, Group::RunsOfA5),
+    (Fault::StrayNotCounted, Group::RunsOfA5),
+    (Fault::SkippedOf8Bits, Group::RunsOfA5),
+    (Fault::TwoA5Decided, Group::RunsOfA5),
     (Fault::JunkKept, Group::Boards),
     (Fault::UnsoundBeforePort, Group::Boards),
     (Fault::SizeBeforeCode, Group::Commands),

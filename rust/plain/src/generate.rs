@@ -3,6 +3,7 @@
 //!
 //! The same seed gives the same material on every machine.
 
+use crate::message::payload_of;
 use crate::{feed, message, start, sums, write_page, Board, Port, Settings, Values};
 
 /// Splitmix64.
@@ -326,6 +327,12 @@ pub fn any_good(rng: &mut Rng) -> Vec<u8> {
     }
 }
 
+/// A message of type A5 with right sums, which the scan does not find.
+pub fn type_a5(rng: &mut Rng) -> Vec<u8> {
+    let other = any_good(rng);
+    message(0xA5, payload_of(&other))
+}
+
 // Damaged ones.
 
 /// A message that something was done to. Now and then it is whole all the same.
@@ -399,7 +406,7 @@ pub fn noise(rng: &mut Rng) -> Vec<u8> {
     bytes
 }
 
-/// A run of A5. Three and more give a type A5, four and more a length A5.
+/// A run of A5. Where three and more stand at the front, all but the last two are skipped.
 pub fn run(rng: &mut Rng) -> Vec<u8> {
     let count = match rng.below(16) {
         0 => rng.between(1, 300),
@@ -447,6 +454,50 @@ pub fn stream(rng: &mut Rng, pieces: usize) -> Vec<u8> {
             bytes.extend(piece(rng));
         }
     }
+    bytes
+}
+
+/// What stands behind a run of A5.
+#[derive(Clone, Copy, Debug, PartialEq, Eq)]
+pub enum Behind {
+    Good,
+    Damaged,
+    TypeA5,
+    Noise,
+}
+
+impl Behind {
+    pub const ALL: [Behind; 4] = [Behind::Good, Behind::Damaged, Behind::TypeA5, Behind::Noise];
+}
+
+/// A run of `length` A5, what is to stand behind it, and up to three commands that the board accepts: they decide what
+/// would stay undecided.
+pub fn run_before(rng: &mut Rng, length: usize, behind: Behind) -> Vec<u8> {
+    let mut bytes = vec![0xA5; length];
+    bytes.extend(match behind {
+        Behind::Good => any_good(rng),
+        Behind::Damaged => damaged(rng),
+        Behind::TypeA5 => type_a5(rng),
+        Behind::Noise => noise(rng),
+    });
+    for _ in 0..rng.below(4) {
+        bytes.extend(accepted_command(rng));
+    }
+    bytes
+}
+
+/// A message with a run of `length` A5 in its payload, at most 255, and a command that the board accepts. The sums are
+/// right, or one of them is wrong.
+pub fn run_within(rng: &mut Rng, length: usize) -> Vec<u8> {
+    let before = rng.below((255 - length).min(4) + 1);
+    let after = rng.below((255 - length - before).min(4) + 1);
+    let payload = [rng.bytes(before), vec![0xA5; length], rng.bytes(after)].concat();
+    let mut bytes = message(kind(rng), &payload);
+    if rng.chance(1, 2) {
+        let end = bytes.len();
+        bytes[end - rng.between(1, 2)] ^= 1 << rng.below(8);
+    }
+    bytes.extend(accepted_command(rng));
     bytes
 }
 
@@ -595,7 +646,7 @@ pub fn sound_port(rng: &mut Rng) -> Port {
     let mut held = match rng.below(8) {
         0 => Vec::new(),
         1 => {
-            // The longest message, but for one byte: undecided with 260.
+            // The longest message, but for one byte: undecided with 260, unless its type is A5.
             let mut bytes = message(kind(rng), &rng.bytes(255));
             if rng.chance(1, 2) {
                 bytes[259] ^= 1;
@@ -684,19 +735,24 @@ pub fn calls(rng: &mut Rng, pieces: usize) -> Vec<Call> {
     list
 }
 
+/// A list of feeds of two streams, [`offered`] to the board.
+pub fn followed(rng: &mut Rng, page: &[u8], pieces: usize) -> Vec<Call> {
+    let mut streams = [Vec::new(), Vec::new()];
+    for bytes in &mut streams {
+        let pieces = rng.below(pieces + 1);
+        *bytes = stream(rng, pieces);
+    }
+    offered(rng, page, streams)
+}
+
 /// A list of feeds that offers again what a feed left of its chunk, as a program does that reads two lines. What is
 /// left is told by the plain feed from that page; where starting refuses the page, by one from a blank page.
-pub fn followed(rng: &mut Rng, page: &[u8], pieces: usize) -> Vec<Call> {
+pub fn offered(rng: &mut Rng, page: &[u8], mut waiting: [Vec<u8>; 2]) -> Vec<Call> {
     let mut page = page.to_vec();
     let (number, mut board) = start(&page);
     if number != 0 {
         page = vec![0xFF; 64];
         board = start(&page).1;
-    }
-    let mut waiting: Vec<Vec<u8>> = Vec::new();
-    for _ in 0..2 {
-        let pieces = rng.below(pieces + 1);
-        waiting.push(stream(rng, pieces));
     }
     let mut list = Vec::new();
     // At the end some feeds more, to report what is still held. Even if each feed were refused, the list ends.

@@ -1,10 +1,11 @@
 //! The board's protocol in plain Rust, and material to test with.
 //!
-//! This is a reading of the paper ("01", the board's protocol, line by line) and not of the library. It is slow and
-//! obvious, in the paper's words and order; numbers such as 01-014 are those of the paper's sentences. READINGS.md says
-//! how each sentence is read that leaves a doubt, and which readings docs/DECISIONS.md settles. [`read_page`] and
-//! [`body`] are no calls of the paper's: which numbers they give, and in which order, is decided there. [`generate`]
-//! makes messages, streams, pages, boards and lists of feeds from a seed.
+//! This is a reading of the paper ("01", the board's protocol, line by line), with request 01 of the change requests
+//! ("02"), and not of the library. It is slow and obvious, in the paper's words and order; numbers such as 01-014 and
+//! 02-01.3 are those of the papers' sentences. READINGS.md says how each sentence is read that leaves a doubt, and
+//! which readings docs/DECISIONS.md settles. [`read_page`] and [`body`] are no calls of the paper's: which numbers they
+//! give, and in which order, is decided there. [`generate`] makes messages, streams, pages, boards and lists of feeds
+//! from a seed.
 //!
 //! The paper, section by section:
 //!

@@ -1,4 +1,4 @@
-//! Ports, the board, starting and feeding (01-013 to 01-025, 01-056, 01-084 to 01-088).
+//! Ports, the board, starting and feeding (01-013 to 01-025, 01-056, 01-084 to 01-088; 02-01.3).
 
 use crate::handling::{handle, Settings, ACCELEROMETER, BAUD, FACTORY, GYROSCOPE};
 use crate::message::{length_of, number_of, sums_right};
@@ -76,6 +76,9 @@ fn look_at(held: &[u8]) -> Left {
         [first, ..] if *first != 0xA5 => Left::Skip,
         // "or a second byte is there and is not A5: one byte is skipped;"
         [_, second, ..] if *second != 0xA5 => Left::Skip,
+        // 02-01.3: "When the front is A5 A5 and a third byte is there and is A5, the scan skips one byte and reports
+        // nothing."
+        [_, _, 0xA5, ..] => Left::Skip,
         // "otherwise, until L + 6 bytes are there, it is undecided;"
         [_, _, _, l, ..] if held.len() >= usize::from(*l) + 6 => {
             let whole = length_of(held) + 6;

@@ -1,4 +1,4 @@
-//! The scan of a whole stream (01-013 to 01-018), as the plain reckoning uses it.
+//! The scan of a whole stream (01-013 to 01-018, with request 01's step, 02-01.3), as the plain reckoning uses it.
 
 use crate::message::sums_right;
 
@@ -50,7 +50,11 @@ pub fn scan(bytes: &[u8]) -> Vec<Event> {
         let unread = &bytes[place..];
 
         // "the first byte is not A5, or a second byte is there and is not A5: one byte is skipped;"
-        if unread[0] != 0xA5 || (unread.len() >= 2 && unread[1] != 0xA5) {
+        let no_opening = unread[0] != 0xA5 || (unread.len() >= 2 && unread[1] != 0xA5);
+        // 02-01.3: "When the front is A5 A5 and a third byte is there and is A5, the scan skips one byte and reports
+        // nothing."
+        let stray = unread.starts_with(&[0xA5, 0xA5, 0xA5]);
+        if no_opening || stray {
             events.push(Event::Skipped { place });
             place += 1;
             continue;

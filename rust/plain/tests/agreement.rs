@@ -6,7 +6,7 @@
 mod common;
 
 use common::Both;
-use plain::generate::{self, Call, Rng};
+use plain::generate::{self, Behind, Call, Rng};
 use plain::*;
 
 fn setting(name: &str, otherwise: u64) -> u64 {
@@ -75,10 +75,33 @@ fn feed_and_reckoning() {
         let page = generate::sound_page(&mut rng);
         let pieces = if rng.chance(1, 10) { 12 } else { 5 };
         let list = generate::any_calls(&mut rng, &page, pieces);
-        if let Err(text) = run(&page, &list) {
-            let short = generate::shrink(&list, |list| run(&page, list).is_err());
-            let why = run(&page, &short).unwrap_err();
-            panic!("list {place}: {text}\npage {page:02X?}\nshortest {short:02X?}\n{why}");
+        run_or_shrink(&format!("list {place}"), &page, &list);
+    }
+}
+
+fn run_or_shrink(name: &str, page: &[u8], list: &[Call]) {
+    if let Err(text) = run(page, list) {
+        let short = generate::shrink(list, |list| run(page, list).is_err());
+        let why = run(page, &short).unwrap_err();
+        panic!("{name}: {text}\npage {page:02X?}\nshortest {short:02X?}\n{why}");
+    }
+}
+
+/// Runs of A5 of each length up to 300, in front of messages and noise and within messages, on both ports.
+#[test]
+fn runs_of_a5() {
+    let mut rng = Rng::new(setting("SEED", 0) ^ 0xA5A5);
+    for length in 1..=300 {
+        let page = generate::sound_page(&mut rng);
+        for behind in Behind::ALL {
+            let streams = [(); 2].map(|()| generate::run_before(&mut rng, length, behind));
+            let list = generate::offered(&mut rng, &page, streams);
+            run_or_shrink(&format!("{length} A5 before {behind:?}"), &page, &list);
+        }
+        if length <= 255 {
+            let streams = [(); 2].map(|()| generate::run_within(&mut rng, length));
+            let list = generate::offered(&mut rng, &page, streams);
+            run_or_shrink(&format!("{length} A5 within a message"), &page, &list);
         }
     }
 }

@@ -3,7 +3,7 @@
 mod common;
 
 use common::Both;
-use plain::generate::{self, Call, Rng};
+use plain::generate::{self, Behind, Call, Rng};
 use plain::*;
 use std::collections::BTreeSet;
 
@@ -64,6 +64,33 @@ fn messages_reach_everything() {
     // Function 1 with its value, 2 to 5 with and without, under three codes.
     assert_eq!(accepted.len(), 3 * (1 + 2 * 4));
     assert!(damaged > 20_000, "{damaged}");
+}
+
+/// A run stands in front of what it is to stand before; both good and damaged messages have runs in them.
+#[test]
+fn runs() {
+    let mut rng = Rng::new(6);
+    let mut good = 0;
+    for length in 1..=255 {
+        let run = vec![0xA5; length];
+        for behind in Behind::ALL {
+            let stream = generate::run_before(&mut rng, length, behind);
+            let (before, after) = stream.split_at(length);
+            assert_eq!(before, run);
+            let end = after.get(3).map_or(0, |&l| usize::from(l) + 6);
+            match behind {
+                Behind::Good => assert_eq!(check_message(&after[..end]), 0),
+                Behind::TypeA5 => assert_eq!((check_message(&after[..end]), after[2]), (0, 0xA5)),
+                Behind::Damaged | Behind::Noise => {}
+            }
+        }
+        let stream = generate::run_within(&mut rng, length);
+        let number = check_message(&stream[..usize::from(stream[3]) + 6]);
+        assert!(number == 0 || number == 22);
+        assert!(stream[4..4 + usize::from(stream[3])].windows(length).any(|part| part == run));
+        good += usize::from(number == 0);
+    }
+    assert!((50..200).contains(&good), "{good}");
 }
 
 /// Lists reach all numbers, errors, saves, messages within damaged ones, and many held bytes.

@@ -1,0 +1,75 @@
+//! Runs of A5 of every length, in front of messages and of noise, and within messages.
+
+use crate::calls::Calls;
+use crate::group::{Outcome, Ran};
+use crate::lists::{run_or_shrink, Beside};
+use plain::generate::{self, Behind, Call, Rng, Step};
+
+const LONGEST: usize = 320;
+
+/// Runs up to this length are cut at every place, longer ones at random.
+const SHORT: usize = 8;
+
+/// Each length, in front of each kind of thing, and in a payload.
+pub fn all(calls: &impl Calls, rng: &mut Rng, ran: &mut Ran) -> Outcome {
+    for length in 1..=LONGEST {
+        for behind in Behind::ALL {
+            both_ports(calls, rng, length, |rng| generate::run_before(rng, length, behind), ran)
+                .map_err(|text| format!("{length} A5 before {behind:?}: {text}"))?;
+        }
+        if length <= 255 {
+            both_ports(calls, rng, length, |rng| generate::run_within(rng, length), ran)
+                .map_err(|text| format!("{length} A5 within a message: {text}"))?;
+        }
+    }
+    Ok(())
+}
+
+/// Two such streams, one for each port.
+fn both_ports(
+    calls: &impl Calls,
+    rng: &mut Rng,
+    length: usize,
+    stream: impl Fn(&mut Rng) -> Vec<u8>,
+    ran: &mut Ran,
+) -> Outcome {
+    let page = generate::sound_page(rng);
+    let streams = [stream(rng), stream(rng)];
+    if length <= SHORT {
+        cut_at_every_place(calls, &page, &streams, ran)?;
+    }
+    let list: Vec<Step> = generate::offered(rng, &page, streams).into_iter().map(Step::Feed).collect();
+    run_or_shrink(calls, &page, &list, Beside::Nothing, ran)
+}
+
+/// The ports alternate: a first part to each, then the rest. The one stream is cut from its front on, the other from
+/// its end. The lists are short, and so compared with the reckoning too.
+fn cut_at_every_place(calls: &impl Calls, page: &[u8], streams: &[Vec<u8>; 2], ran: &mut Ran) -> Outcome {
+    let [first, second] = streams;
+    for cut in 0..=first.len().max(second.len()) {
+        let (begun, ended) = first.split_at(cut.min(first.len()));
+        let (other_begun, other_ended) = second.split_at(second.len().saturating_sub(cut));
+        let list = used_up(&[(0, begun), (1, other_begun), (0, ended), (1, other_ended)]);
+        run_or_shrink(calls, page, &list, Beside::Reckoning, ran)?;
+    }
+    Ok(())
+}
+
+/// Feeds of chunks in turn, each until it is used up, so that nothing of a stream is lost.
+fn used_up(chunks: &[(u8, &[u8])]) -> Vec<Step> {
+    let mut page = vec![0xFF; 64];
+    let (_, mut board) = plain::start(&page);
+    let mut list = Vec::new();
+    for &(port, chunk) in chunks {
+        let mut rest = chunk;
+        let mut answered = 0;
+        while answered == 0 {
+            let fed = plain::feed(port, &board, rest, &mut [0; 16], &mut page);
+            list.push(Step::Feed(Call { port, chunk: rest.to_vec(), room: 16 }));
+            rest = &rest[fed.taken..];
+            board = fed.board;
+            answered = fed.number;
+        }
+    }
+    list
+}
