@@ -97,6 +97,7 @@ typedef struct {
  * Feeds a chunk to port 0 or 1. `bytes` are the 260 bytes of the named port, which are written in place, `first` and `second`
  * the held counts of ports 0 and 1. The caller puts the answer's held count and settings back into its board, as
  * ketphiroj_feed_board does.
+ * Bytes that open no message are skipped without a reply; so are stray A5 in front of a message, any number of them.
  * 0: a message was answered. Its reply is at the front of `room`: 4 bytes, payload, 2 bytes, where byte 3 is the length of the
  *    payload; the rest of the room is left alone. Where `saved`, the page was written anew, else it is as it was.
  * 1: the whole chunk was taken, and there is nothing more to report. Nothing was written to the room or the page.
@@ -136,7 +137,7 @@ typedef struct {
 /* Is this one whole message with right sums? Numbers: 0; 21, 22. */
 uint8_t ketphiroj_check_message(const uint8_t *message, size_t message_length);
 
-/* Writes the message of a type and a payload. Numbers: 0; 26, 18. */
+/* Writes the message of a type and a payload. Any type is written; a board finds no message of type A5. Numbers: 0; 26, 18. */
 ketphiroj_written ketphiroj_write_message(
     uint8_t kind, const uint8_t *payload, size_t payload_length, uint8_t *room, size_t room_length);
 

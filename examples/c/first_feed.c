@@ -1,5 +1,5 @@
 /*
- * A board on a blank page. A Ping comes in two parts on port 0; then port 1 is told to use 921600 baud and asked for the rate,
+ * A board on a blank page. The cable is plugged in, which gives a stray A5, and a Ping comes in two parts on port 0; then port 1 is told to use 921600 baud and asked for the rate,
  * and the replies are read as the controller reads them.
  */
 #include "ketphiroj.h"
@@ -46,6 +46,8 @@ int main(void) {
 
     uint8_t message[KETPHIROJ_LONGEST_MESSAGE];
     ketphiroj_written ping = ketphiroj_write_command(0x02, 0, 0, message, sizeof message);
+    static const uint8_t stray[] = {0xA5};
+    feed(0, stray, sizeof stray);
     feed(0, message, 3);
     feed(0, message + 3, ping.length - 3);
     print_reply();

@@ -1,4 +1,4 @@
-//! Feeds one of the six files to the library and does nothing else, for a profiler: `feeds FILE KIB`, FILE 0 to 5.
+//! Feeds one of the seven files to the library and does nothing else, for a profiler: `feeds FILE KIB`, FILE 0 to 6.
 
 #![forbid(unsafe_code)]
 
