@@ -88,5 +88,5 @@ stray-marks =
       one-alone = refl;
       run = run;
       run-held = run-held;
-      nobodys-type = none-past 0;
+      never-reported = none-past 0;
     }
