@@ -1,6 +1,6 @@
 /*
- * A board on a blank page. The cable is plugged in, which gives a stray A5, and a Ping comes in two parts on port 0; then port 1 is told to use 921600 baud and asked for the rate,
- * and the replies are read as the controller reads them.
+ * A board on a blank page. On port 0 comes a stray A5, as when a cable is plugged in, and then a Ping in two parts; then port 1 is
+ * told to use 921600 baud and asked for the rate, and the replies are read as the controller reads them.
  */
 #include "ketphiroj.h"
 

@@ -14,7 +14,7 @@ use Rattle.stream.specs.Seek.{seek}
 use Rattle.stream.proofs.Framings.{Header, framing, IsWhole, is-whole}
 use Rattle.stream.proofs.Cuts.{cutting, starved-is}
 use Rattle.message.specs.Message.{sumsRight}
-use Rattle.message.specs.Front.{marked, startsWithMark, opens, sizeOf, front, mostUndecided}
+use Rattle.message.specs.Front.{a5OrNone, startsWithA5, opens, sizeOf, front, mostUndecided}
 use Rattle.message.specs.Theorems.{CuttingHarmless}
 
 -- Three bytes decide the opening,
@@ -28,12 +28,12 @@ opens-false : (u v : List ℕ) → opens u ≡ false → opens (u ++ v) ≡ fals
 opens-false [] v e = cc
 opens-false (x ∷ []) v e = go (eqb x 0xA5) e
   where
-    go : (b : Bool) → b && true && true ≡ false → b && marked v && not (startsWithMark (drop 1 v)) ≡ false
+    go : (b : Bool) → b && true && true ≡ false → b && a5OrNone v && not (startsWithA5 (drop 1 v)) ≡ false
     go true p = cc
     go false p = refl
 opens-false (x ∷ y ∷ []) v e = go (eqb x 0xA5 && eqb y 0xA5) e
   where
-    go : (b : Bool) → b && true ≡ false → b && not (startsWithMark v) ≡ false
+    go : (b : Bool) → b && true ≡ false → b && not (startsWithA5 v) ≡ false
     go true p = cc
     go false p = refl
 opens-false (x ∷ y ∷ z ∷ u) v e = e

@@ -6,10 +6,11 @@ use mathlib.Core.Bool.{Bool, true, false, not, _&&_}
 use mathlib.Core.List.{List, [], _∷_, _++_}
 use lib.Dec.{eqb, leb}
 use lib.ListN.{length, take, getD, length-append}
-use borrow.Author.Tests.{eq-eqb, ne-eqb, le-leb, lt-leb, leb-true}
+use borrow.Author.Tests.{eq-eqb, ne-eqb, eqb-true, le-leb, lt-leb, leb-true}
+use Rattle.stream.proofs.Bools.{and-both, differ}
 use Rattle.stream.specs.declared.Verdict.the-variants.{Skip, Undecided, Whole}
 use Rattle.message.specs.declared.header.Opening.{Opening}
-use Rattle.message.specs.declared.header.Opening.the-variants.{Shut, Short, Complete}
+use Rattle.message.specs.declared.header.Opening.the-variants.{NoMessage, Incomplete, Complete}
 use Rattle.message.specs.Message.{sumsRight}
 use Rattle.message.specs.Front.{opens, sizeOf, front}
 use Rattle.message.specs.Header.{openingOf}
@@ -31,16 +32,32 @@ opens-bytes (x ∷ []) h = absurd (omega arith)
 opens-bytes (x ∷ y ∷ []) h = refl
 opens-bytes (x ∷ y ∷ t ∷ u) h = refl
 
+-- What an opening tells of its first bytes.
+pub record OpensTold (u : List ℕ) : Type 0 where
+  pub first : getD u 0 0 ≡ 0xA5
+  pub second : getD u 1 0 ≡ 0xA5
+  pub third : getD u 2 0 ≡ 0xA5 → ⊥
+
+pub opens-told : (u : List ℕ) → 2 ≤ length u → opens u ≡ true → OpensTold u
+opens-told u l e =
+    let b = and-both (eqb (getD u 0 0) 0xA5 && eqb (getD u 1 0) 0xA5) (not (eqb (getD u 2 0) 0xA5)) (sym (opens-bytes u l) ∙ e) in
+    let c = and-both (eqb (getD u 0 0) 0xA5) (eqb (getD u 1 0) 0xA5) (b .0) in
+    record {
+      first = eqb-true (getD u 0 0) 0xA5 (c .0);
+      second = eqb-true (getD u 1 0) 0xA5 (c .1);
+      third = λ s. differ (sym (b .1) ∙ rw (eq-eqb (getD u 2 0) 0xA5 s));
+    }
+
 -- ---- the opening
 
 module _ (u : List ℕ) where
-  opening-shut : opens u ≡ false → Shut ≡ openingOf u
+  opening-none : opens u ≡ false → NoMessage ≡ openingOf u
   unfolding openingOf
-  opening-shut e = rw e
+  opening-none e = rw e
 
-  opening-short : opens u ≡ true → length u < sizeOf u → Short ≡ openingOf u
+  opening-incomplete : opens u ≡ true → length u < sizeOf u → Incomplete ≡ openingOf u
   unfolding openingOf
-  opening-short e h = rw (e, lt-leb (sizeOf u) (length u) h)
+  opening-incomplete e h = rw (e, lt-leb (sizeOf u) (length u) h)
 
   opening-complete : opens u ≡ true → sizeOf u ≤ length u → Complete (sizeOf u) ≡ openingOf u
   unfolding openingOf
@@ -51,42 +68,42 @@ module _ (held chunk : List ℕ) where
   long : length (held ++ chunk) ≡ length held + length chunk
   long = length-append held chunk
 
-  pub told-none : length held + length chunk ≡ 0 → Short ≡ openingOf (held ++ chunk)
+  pub told-none : length held + length chunk ≡ 0 → Incomplete ≡ openingOf (held ++ chunk)
   told-none h = none (held ++ chunk) (long ∙ h)
     where
-      none : (u : List ℕ) → length u ≡ 0 → Short ≡ openingOf u
-      none [] l = opening-short [] refl (omega arith)
+      none : (u : List ℕ) → length u ≡ 0 → Incomplete ≡ openingOf u
+      none [] l = opening-incomplete [] refl (omega arith)
       none (x ∷ u) l = absurd (omega arith)
 
   module _ (some : length held + length chunk ≡ 0 → ⊥) (x : ℕ) (p : x ≡ getD (held ++ chunk) 0 0) where
     there : 1 ≤ length (held ++ chunk)
     there = rw long (omega arith)
 
-    pub told-first : (x ≡ 0xA5 → ⊥) → Shut ≡ openingOf (held ++ chunk)
-    told-first n = opening-shut (held ++ chunk) (opens-first (held ++ chunk) there (rw p at n))
+    pub told-first : (x ≡ 0xA5 → ⊥) → NoMessage ≡ openingOf (held ++ chunk)
+    told-first n = opening-none (held ++ chunk) (opens-first (held ++ chunk) there (rw p at n))
 
     module _ (e : x ≡ 0xA5) where
-      pub told-one : length held + length chunk < 2 → Short ≡ openingOf (held ++ chunk)
-      told-one k = opening-short (held ++ chunk) (opens-one (held ++ chunk) there (rw long k) (sym p ∙ e)) (rw long (omega arith))
+      pub told-one : length held + length chunk < 2 → Incomplete ≡ openingOf (held ++ chunk)
+      told-one k = opening-incomplete (held ++ chunk) (opens-one (held ++ chunk) there (rw long k) (sym p ∙ e)) (rw long (omega arith))
 
       module _ (two : 2 ≤ length held + length chunk) (y : ℕ) (q : y ≡ getD (held ++ chunk) 1 0) where
-        pub told-second : (y ≡ 0xA5 → ⊥) → Shut ≡ openingOf (held ++ chunk)
+        pub told-second : (y ≡ 0xA5 → ⊥) → NoMessage ≡ openingOf (held ++ chunk)
         told-second n =
-            opening-shut (held ++ chunk) (opens-bytes (held ++ chunk) (rw long two) ∙ rw (← p, ← q, eq-eqb _ _ e, ne-eqb _ _ n))
+            opening-none (held ++ chunk) (opens-bytes (held ++ chunk) (rw long two) ∙ rw (← p, ← q, eq-eqb _ _ e, ne-eqb _ _ n))
 
         module _ (f : y ≡ 0xA5) (s : ℕ) (a : s ≡ getD (held ++ chunk) 2 0) where
           opens-on : (b : Bool) → eqb s 0xA5 ≡ b → opens (held ++ chunk) ≡ not b
           opens-on b g = opens-bytes (held ++ chunk) (rw long two) ∙ rw (← p, ← q, ← a, eq-eqb _ _ e, eq-eqb _ _ f, g)
 
-          pub told-third : s ≡ 0xA5 → Shut ≡ openingOf (held ++ chunk)
-          told-third g = opening-shut (held ++ chunk) (opens-on true (eq-eqb _ _ g))
+          pub told-third : s ≡ 0xA5 → NoMessage ≡ openingOf (held ++ chunk)
+          told-third g = opening-none (held ++ chunk) (opens-on true (eq-eqb _ _ g))
 
           module _ (g : s ≡ 0xA5 → ⊥) (z : ℕ) (r : z ≡ getD (held ++ chunk) 3 0) (n : ℕ) (t : n ≡ z % 256 + 6) where
             size-told : sizeOf (held ++ chunk) ≡ n
             size-told = rw (t, r)
 
-            pub told-short : length held + length chunk < n → Short ≡ openingOf (held ++ chunk)
-            told-short k = opening-short (held ++ chunk) (opens-on false (ne-eqb _ _ g)) (rw (size-told, long) k)
+            pub told-incomplete : length held + length chunk < n → Incomplete ≡ openingOf (held ++ chunk)
+            told-incomplete k = opening-incomplete (held ++ chunk) (opens-on false (ne-eqb _ _ g)) (rw (size-told, long) k)
 
             pub told-complete : n ≤ length held + length chunk → Complete n ≡ openingOf (held ++ chunk)
             told-complete k = rw size-told at (opening-complete (held ++ chunk) (opens-on false (ne-eqb _ _ g)) (rw (size-told, long) k))
@@ -102,18 +119,18 @@ unfolding front
 front-whole u e h = rw (e, le-leb (sizeOf u) (length u) h)
 
 module _ (u : List ℕ) (o : Opening) (is : o ≡ openingOf u) where
-  pub front-shut : o ≡ Shut → Skip ≡ front u
+  pub front-no-message : o ≡ NoMessage → Skip ≡ front u
   unfolding front openingOf
-  front-shut e = go (opens u) refl (leb (sizeOf u) (length u)) refl
+  front-no-message e = go (opens u) refl (leb (sizeOf u) (length u)) refl
     where
       go : (b : Bool) → opens u ≡ b → (c : Bool) → leb (sizeOf u) (length u) ≡ c → Skip ≡ front u
       go false p c q = rw p
       go true p true q = cc
       go true p false q = cc
 
-  pub front-short : o ≡ Short → Undecided ≡ front u
+  pub front-incomplete : o ≡ Incomplete → Undecided ≡ front u
   unfolding front openingOf
-  front-short e = go (opens u) refl (leb (sizeOf u) (length u)) refl
+  front-incomplete e = go (opens u) refl (leb (sizeOf u) (length u)) refl
     where
       go : (b : Bool) → opens u ≡ b → (c : Bool) → leb (sizeOf u) (length u) ≡ c → Undecided ≡ front u
       go false p c q = cc
@@ -126,7 +143,7 @@ module _ (u : List ℕ) (o : Opening) (is : o ≡ openingOf u) where
     pub sized : n ≡ sizeOf u
     pub inside : sizeOf u ≤ length u
 
-  pub complete : (n : ℕ) → o ≡ Complete n → IsComplete n
+  complete : (n : ℕ) → o ≡ Complete n → IsComplete n
   unfolding openingOf
   complete n e = go (opens u) refl (leb (sizeOf u) (length u)) refl
     where

@@ -2,28 +2,16 @@
 use Prim.Native.Nat.{ℕ, _+_, _%_, _≤_}
 use native.Mathlib.Omega.{arith}
 use mathlib.Core.Path.{_≡_, refl, sym, _∙_, ap}
-use mathlib.Core.Bool.{Bool, true, false, not, _&&_}
-use mathlib.Core.List.{List}
-use lib.Dec.{eqb}
+use mathlib.Core.Bool.{Bool, true, false}
 use lib.ListN.{length, take, getD}
 use lib.Seq.{getD-take, take-take, length-take-le}
-use borrow.Author.Tests.{eqb-true}
-use Rattle.stream.proofs.Bools.{and-both}
 use Rattle.stream.proofs.Framings.{IsWhole}
 use Rattle.message.specs.Message.{sumsRight}
-use Rattle.message.specs.Front.{opens}
 use Rattle.message.specs.Whole.{wholeNumber}
 use Rattle.message.specs.Theorems.{wholeOn, ReportedIsWhole}
-use Rattle.message.proofs.Openings.{opens-bytes}
+use Rattle.message.proofs.Openings.{OpensTold, opens-told}
 use Rattle.message.proofs.Framed.{header, whole-told}
 use Rattle.message.proofs.Wholes.{whole-right, whole-wrong}
-
-marks : (u : List ℕ) → 2 ≤ length u → opens u ≡ true → (getD u 0 0 ≡ 0xA5) × (getD u 1 0 ≡ 0xA5)
-marks u l e =
-    let w = sym (opens-bytes u l) ∙ e in
-    let b = and-both (eqb (getD u 0 0) 0xA5 && eqb (getD u 1 0) 0xA5) (not (eqb (getD u 2 0) 0xA5)) w in
-    let c = and-both (eqb (getD u 0 0) 0xA5) (eqb (getD u 1 0) 0xA5) (b .0) in
-    (eqb-true (getD u 0 0) 0xA5 (c .0), eqb-true (getD u 1 0) 0xA5 (c .1))
 
 pub reported-is-whole : ReportedIsWhole
 reported-is-whole u n good e = by good (t .valid-is)
@@ -37,8 +25,8 @@ reported-is-whole u n good e = by good (t .valid-is)
     byte : (i : ℕ) → i + 1 ≤ 6 → getD (take n u) i 0 ≡ getD u i 0
     byte i h = getD-take n u i 0 (omega (arith, small .0))
 
-    two : (getD u 0 0 ≡ 0xA5) × (getD u 1 0 ≡ 0xA5)
-    two = marks u (omega (arith, small)) (t .opening)
+    head : OpensTold u
+    head = opens-told u (omega (arith, small)) (t .opening)
 
     long : length (take n u) ≡ n
     long = length-take-le n u (small .1)
@@ -47,5 +35,5 @@ reported-is-whole u n good e = by good (t .valid-is)
     size = t .sized ∙ ap (λ (i : ℕ). i % 256 + 6) (sym (byte 3 (omega arith)))
 
     by : (good : Bool) → good ≡ sumsRight (take n u) → wholeNumber (take n u) ≡ wholeOn good
-    by true g = sym (whole-right (take n u) (omega (arith, long, small)) (byte 0 (omega arith) ∙ two .0) (byte 1 (omega arith) ∙ two .1) n size long true (g ∙ ap sumsRight (sym (take-take n n u (omega arith)))) refl)
-    by false g = sym (whole-wrong (take n u) (omega (arith, long, small)) (byte 0 (omega arith) ∙ two .0) (byte 1 (omega arith) ∙ two .1) n size long false (g ∙ ap sumsRight (sym (take-take n n u (omega arith)))) refl)
+    by true g = sym (whole-right (take n u) (omega (arith, long, small)) (byte 0 (omega arith) ∙ head .first) (byte 1 (omega arith) ∙ head .second) n size long true (g ∙ ap sumsRight (sym (take-take n n u (omega arith)))) refl)
+    by false g = sym (whole-wrong (take n u) (omega (arith, long, small)) (byte 0 (omega arith) ∙ head .first) (byte 1 (omega arith) ∙ head .second) n size long false (g ∙ ap sumsRight (sym (take-take n n u (omega arith)))) refl)

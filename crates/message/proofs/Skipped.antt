@@ -11,28 +11,22 @@ use lib.ListN.{length, take, drop, getD, length-drop, length-append, List·getD-
 use lib.Seq.{getD-drop, drop-append-le, drop-cons, drop-drop}
 use borrow.Author.Tests.{eq-eqb, eqb-true, eqb-false}
 use Rattle.stream.specs.declared.Verdict.the-variants.{Skip}
-use Rattle.stream.specs.declared.Sought.{Sought}
-use Rattle.stream.specs.declared.Sought.the-variants.{Starved, Found}
 use Rattle.stream.specs.Seek.{beyond, seek}
 use Rattle.stream.proofs.Bools.{or-neither}
-use Rattle.stream.proofs.Seeks.{seek-starts, seek-skips, beyond-zero}
+use Rattle.stream.proofs.Seeks.{seek-starts, seek-skips, beyond-zero, beyond-beyond}
 use Rattle.message.specs.Front.{opens, front}
-use Rattle.message.specs.Skips.{hasByte, Skips, RunAt}
+use Rattle.message.specs.Skips.{anyA5, SkippedPart, RunAt}
 use Rattle.message.proofs.Openings.{opens-first, opens-bytes, front-skip}
-
-beyond-beyond : (a b : ℕ) (r : Sought) → beyond a (beyond b r) ≡ beyond (a + b) r
-beyond-beyond a b (Starved k) = let e : a + (b + k) ≡ a + b + k = omega arith in ap Starved e
-beyond-beyond a b (Found k n good) = let e : a + (b + k) ≡ a + b + k = omega arith in ap (λ (i : ℕ). Found i n good) e
 
 -- ---- one place after the other
 
 module _ (s : List ℕ) where
-  pub skips-none : (from : ℕ) → from ≤ length s → Skips s from from
+  pub skips-none : (from : ℕ) → from ≤ length s → SkippedPart s from from
   skips-none from h =
       let z : from - from ≡ 0 = omega arith in
       record { forward = omega arith; inside = h; sought = λ v. rw z (sym (beyond-zero (seek front (drop from s ++ v)))) }
 
-  pub skips-on : {from i to : ℕ} → Skips s from i → Skips s i to → Skips s from to
+  pub skips-on : {from i to : ℕ} → SkippedPart s from i → SkippedPart s i to → SkippedPart s from to
   skips-on {from} {i} {to} a b =
       let k : i - from + (to - i) ≡ to - from = omega (arith, a .forward, b .forward) in
       record {
@@ -42,7 +36,7 @@ module _ (s : List ℕ) where
       }
 
   -- A place at which no message opens, whatever follows.
-  skips-one : (i : ℕ) → i < length s → ((v : List ℕ) → opens (drop i s ++ v) ≡ false) → Skips s i (i + 1)
+  skips-one : (i : ℕ) → i < length s → ((v : List ℕ) → opens (drop i s ++ v) ≡ false) → SkippedPart s i (i + 1)
   skips-one i h shut =
       record {
         forward = omega arith;
@@ -59,7 +53,7 @@ module _ (s : List ℕ) where
   byte i k v h = List·getD-append (drop i s) v 0 k (rw length-drop (omega arith)) ∙ getD-drop i s k 0
 
   -- What is no A5.
-  pub skips-other : (from i : ℕ) → i < length s → (getD s i 0 ≡ 0xA5 → ⊥) → Skips s from i → Skips s from (i + 1)
+  pub skips-other : (from i : ℕ) → i < length s → (getD s i 0 ≡ 0xA5 → ⊥) → SkippedPart s from i → SkippedPart s from (i + 1)
   skips-other from i h n before = skips-on before (skips-one i h shut)
     where
       shut : (v : List ℕ) → opens (drop i s ++ v) ≡ false
@@ -67,8 +61,8 @@ module _ (s : List ℕ) where
           opens-first (drop i s ++ v) (rw (length-append, length-drop) (omega arith)) (λ e. n (rw add-zero at (sym (byte i 0 v (omega arith)) ∙ e)))
 
   -- An A5 that two more follow.
-  pub skips-stray : (from i : ℕ) → i + 2 < length s → getD s i 0 ≡ 0xA5 → getD s (i + 1) 0 ≡ 0xA5 → getD s (i + 2) 0 ≡ 0xA5
-      → Skips s from i → Skips s from (i + 1)
+  skips-stray : (from i : ℕ) → i + 2 < length s → getD s i 0 ≡ 0xA5 → getD s (i + 1) 0 ≡ 0xA5 → getD s (i + 2) 0 ≡ 0xA5
+      → SkippedPart s from i → SkippedPart s from (i + 1)
   skips-stray from i h x y z before = skips-on before (skips-one i (omega arith) shut)
     where
       is : (k : ℕ) (v : List ℕ) → i + k < length s → getD s (i + k) 0 ≡ 0xA5 → eqb (getD (drop i s ++ v) k 0) 0xA5 ≡ true
@@ -88,23 +82,20 @@ run-more s from i h z run =
     let k : i + 2 ≡ i + 1 + 1 = omega arith in
     record { room = omega arith; first = run .second; second = rw k at z; before = skips-stray s from i h (run .first) (run .second) z (run .before) }
 
-pub run-skips : (s : List ℕ) (from i : ℕ) → RunAt s from i → Skips s from i
-run-skips s from i run = run .before
-
 -- ---- blocks
 
-module _ (mark : Bool) (b : List ℕ) (i : ℕ) (found : Bool) (inv : hasByte mark b ≡ found || hasByte mark (drop i b)) where
-  pub byte-more : i < length b → hasByte mark b ≡ (found || Bool·beq (eqb (getD b i 0) 0xA5) mark) || hasByte mark (drop (i + 1) b)
+module _ (is : Bool) (b : List ℕ) (i : ℕ) (found : Bool) (inv : anyA5 is b ≡ found || anyA5 is (drop i b)) where
+  pub byte-more : i < length b → anyA5 is b ≡ (found || Bool·beq (eqb (getD b i 0) 0xA5) is) || anyA5 is (drop (i + 1) b)
   byte-more h = inv ∙ rw (drop-cons b i 0 h, add-one, or-assoc)
 
-  pub byte-all : length b ≤ i → found ≡ hasByte mark b
+  pub byte-all : length b ≤ i → found ≡ anyA5 is b
   byte-all h = sym (inv ∙ rw (drop-of-length-le b h, or-false))
 
 -- A block of n bytes without such a byte: its first is not one, and the rest has none.
-block-cons : (mark : Bool) (s : List ℕ) (i n : ℕ) → i < length s → hasByte mark (take (suc n) (drop i s)) ≡ false
-    → (Bool·beq (eqb (getD s i 0) 0xA5) mark ≡ false) × (hasByte mark (take n (drop (i + 1) s)) ≡ false)
-block-cons mark s i n h e =
-    rw add-one (or-neither (Bool·beq (eqb (getD s i 0) 0xA5) mark) (hasByte mark (take n (drop (suc i) s))) (rw (drop-cons s i 0 h) at e))
+block-cons : (is : Bool) (s : List ℕ) (i n : ℕ) → i < length s → anyA5 is (take (suc n) (drop i s)) ≡ false
+    → (Bool·beq (eqb (getD s i 0) 0xA5) is ≡ false) × (anyA5 is (take n (drop (i + 1) s)) ≡ false)
+block-cons is s i n h e =
+    rw add-one (or-neither (Bool·beq (eqb (getD s i 0) 0xA5) is) (anyA5 is (take n (drop (suc i) s))) (rw (drop-cons s i 0 h) at e))
 
 beq-true : (b : Bool) → Bool·beq b true ≡ false → b ≡ false
 beq-true true e = e
@@ -114,18 +105,18 @@ beq-false : (b : Bool) → Bool·beq b false ≡ false → b ≡ true
 beq-false true e = refl
 beq-false false e = sym e
 
-skips-unmarked : (s : List ℕ) (from i n : ℕ) → i + n ≤ length s → hasByte true (take n (drop i s)) ≡ false → Skips s from i → Skips s from (i + n)
-skips-unmarked s from i zero h e before = rw add-zero before
-skips-unmarked s from i (suc n) h e before =
+skips-others : (s : List ℕ) (from i n : ℕ) → i + n ≤ length s → anyA5 true (take n (drop i s)) ≡ false → SkippedPart s from i → SkippedPart s from (i + n)
+skips-others s from i zero h e before = rw add-zero before
+skips-others s from i (suc n) h e before =
     let b = block-cons true s i n (omega arith) e in
     let k : i + 1 + n ≡ i + suc n = omega arith in
-    rw k at (skips-unmarked s from (i + 1) n (omega arith) (b .1) (skips-other s from i (omega arith) (eqb-false _ _ (beq-true _ (b .0))) before))
+    rw k at (skips-others s from (i + 1) n (omega arith) (b .1) (skips-other s from i (omega arith) (eqb-false _ _ (beq-true _ (b .0))) before))
 
-pub skips-block : (s : List ℕ) (from i : ℕ) → 16 ≤ length s - i → (found : Bool) → found ≡ hasByte true (take (i + 16 - i) (drop i s)) → found ≡ false
-    → Skips s from i → Skips s from (i + 16)
-skips-block s from i h found is e before = skips-unmarked s from i 16 (omega arith) (rw add-sub-cancel-left at (sym is ∙ e)) before
+pub skips-block : (s : List ℕ) (from i : ℕ) → 16 ≤ length s - i → (found : Bool) → found ≡ anyA5 true (take (i + 16 - i) (drop i s)) → found ≡ false
+    → SkippedPart s from i → SkippedPart s from (i + 16)
+skips-block s from i h found is e before = skips-others s from i 16 (omega arith) (rw add-sub-cancel-left at (sym is ∙ e)) before
 
-run-unbroken : (s : List ℕ) (from i n : ℕ) → i + 2 + n ≤ length s → hasByte false (take n (drop (i + 2) s)) ≡ false → RunAt s from i → RunAt s from (i + n)
+run-unbroken : (s : List ℕ) (from i n : ℕ) → i + 2 + n ≤ length s → anyA5 false (take n (drop (i + 2) s)) ≡ false → RunAt s from i → RunAt s from (i + n)
 run-unbroken s from i zero h e run = rw add-zero run
 run-unbroken s from i (suc n) h e run =
     let b = block-cons false s (i + 2) n (omega arith) e in
@@ -133,7 +124,7 @@ run-unbroken s from i (suc n) h e run =
     let k : i + 1 + n ≡ i + suc n = omega arith in
     rw k at (run-unbroken s from (i + 1) n (omega arith) (rw j at (b .1)) (run-more s from i (omega arith) (eqb-true _ _ (beq-false _ (b .0))) run))
 
-pub run-block : (s : List ℕ) (from i : ℕ) → 18 ≤ length s - i → (found : Bool) → found ≡ hasByte false (take (i + 18 - (i + 2)) (drop (i + 2) s)) → found ≡ false
+pub run-block : (s : List ℕ) (from i : ℕ) → 18 ≤ length s - i → (found : Bool) → found ≡ anyA5 false (take (i + 18 - (i + 2)) (drop (i + 2) s)) → found ≡ false
     → RunAt s from i → RunAt s from (i + 16)
 run-block s from i h found is e run =
     let k : i + 18 - (i + 2) ≡ 16 = omega arith in
@@ -141,7 +132,7 @@ run-block s from i h found is e run =
 
 -- ---- a seek that goes on behind them
 
-pub seek-passes : (s v : List ℕ) (at to : ℕ) → Skips s at to → seek front (s ++ v) ≡ beyond at (seek front (drop at (s ++ v)))
+pub seek-passes : (s v : List ℕ) (at to : ℕ) → SkippedPart s at to → seek front (s ++ v) ≡ beyond at (seek front (drop at (s ++ v)))
     → seek front (s ++ v) ≡ beyond to (seek front (drop to (s ++ v)))
 seek-passes s v at to k inv =
     let a : drop at (s ++ v) ≡ drop at s ++ v = drop-append-le at s v (omega (arith, k .forward, k .inside)) in
@@ -149,5 +140,5 @@ seek-passes s v at to k inv =
     let n : at + (to - at) ≡ to = omega (arith, k .forward) in
     rw (n, ← b) at (rw a at inv ∙ ap (beyond at) (k .sought v) ∙ beyond-beyond at (to - at) (seek front (drop to s ++ v)))
 
-pub seek-passes-here : (s : List ℕ) (at to : ℕ) → Skips s at to → seek front s ≡ beyond at (seek front (drop at s)) → seek front s ≡ beyond to (seek front (drop to s))
+pub seek-passes-here : (s : List ℕ) (at to : ℕ) → SkippedPart s at to → seek front s ≡ beyond at (seek front (drop at s)) → seek front s ≡ beyond to (seek front (drop to s))
 seek-passes-here s at to k inv = rw append-nil at (seek-passes s [] at to k (rw append-nil inv))

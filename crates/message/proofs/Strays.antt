@@ -2,10 +2,9 @@
 use Prim.Native.Nat.{ℕ, zero, suc, pred}
 use native.Mathlib.Omega.{arith}
 use mathlib.Core.Path.{_≡_, refl, ap, sym, _∙_}
-use mathlib.Core.Bool.{Bool, true, false, not, _&&_}
+use mathlib.Core.Bool.{Bool, true, false, and-false}
 use mathlib.Core.List.{List, [], _∷_, _++_}
-use lib.Dec.{eqb}
-use lib.ListN.{take, getD, replicate}
+use lib.ListN.{length, take, drop, getD, replicate}
 use lib.Seq.{getD-take}
 use borrow.Author.Tests.{eq-eqb}
 use Rattle.stream.specs.declared.Verdict.{Verdict}
@@ -14,28 +13,28 @@ use Rattle.stream.specs.declared.Sought.the-variants.{Starved}
 use Rattle.stream.specs.Scan.{Event, skipped, eventsOn, eventsPast, events, messages}
 use Rattle.stream.specs.Seek.{afterSkip, seek}
 use Rattle.stream.specs.Cutting.{skips}
-use Rattle.stream.proofs.Bools.{and-both}
+use Rattle.stream.proofs.Cuts.{starved-is}
 use Rattle.stream.proofs.Framings.{IsWhole}
 use Rattle.message.specs.Message.{typeOf, sumsRight}
-use Rattle.message.specs.Front.{startsWithMark, front}
-use Rattle.message.specs.Theorems.{NoneOfType, StrayMarks}
-use Rattle.message.proofs.Openings.{opens-bytes, front-skip}
+use Rattle.message.specs.Front.{startsWithA5, opens, front}
+use Rattle.message.specs.Theorems.{NoneOfType, StrayA5}
+use Rattle.message.proofs.Openings.{opens-told, front-skip}
 use Rattle.message.proofs.Framed.{header, whole-told, cutting-harmless}
 
 -- ---- a run
 
 -- A5 A5 and then bytes that start with A5.
-front-stray : (u : List ℕ) → startsWithMark u ≡ true → front (0xA5 ∷ 0xA5 ∷ u) ≡ Skip
+front-stray : (u : List ℕ) → startsWithA5 u ≡ true → front (0xA5 ∷ 0xA5 ∷ u) ≡ Skip
 front-stray u e = sym (front-skip (0xA5 ∷ 0xA5 ∷ u) (rw e))
 
-events-stray : (u : List ℕ) → startsWithMark u ≡ true → events front (0xA5 ∷ 0xA5 ∷ u) ≡ skipped ∷ events front (0xA5 ∷ u)
+events-stray : (u : List ℕ) → startsWithA5 u ≡ true → events front (0xA5 ∷ 0xA5 ∷ u) ≡ skipped ∷ events front (0xA5 ∷ u)
 events-stray u e = cutting-harmless .scan-skip (0xA5 ∷ 0xA5 ∷ u) (omega arith) (front-stray u e)
 
-seek-stray : (u : List ℕ) → startsWithMark u ≡ true → seek front (0xA5 ∷ 0xA5 ∷ u) ≡ afterSkip (seek front (0xA5 ∷ u))
+seek-stray : (u : List ℕ) → startsWithA5 u ≡ true → seek front (0xA5 ∷ 0xA5 ∷ u) ≡ afterSkip (seek front (0xA5 ∷ u))
 unfolding seek
 seek-stray u e = rw (front-stray u e)
 
-run-starts : (k : ℕ) (v : List ℕ) → startsWithMark (replicate k 0xA5 ++ (0xA5 ∷ v)) ≡ true
+run-starts : (k : ℕ) (v : List ℕ) → startsWithA5 (replicate k 0xA5 ++ (0xA5 ∷ v)) ≡ true
 run-starts zero v = refl
 run-starts (suc k) v = refl
 
@@ -59,12 +58,8 @@ run-held (suc (suc k)) =
 type-told : (u : List ℕ) (n : ℕ) (good : Bool) → front u ≡ Whole n good → typeOf (take n u) ≡ 0xA5 → ⊥
 type-told u n good e same =
     let t : IsWhole header sumsRight u n good = whole-told u n good e in
-    let w = sym (opens-bytes u (omega (arith, t .sized, t .inside))) ∙ t .opening in
-    let b = and-both (eqb (getD u 0 0) 0xA5 && eqb (getD u 1 0) 0xA5) (not (eqb (getD u 2 0) 0xA5)) w in
     let k : getD (take n u) 2 0 ≡ getD u 2 0 = getD-take n u 2 0 (omega (arith, t .sized)) in
-    let q : eqb (getD u 2 0) 0xA5 ≡ true = eq-eqb _ _ (sym k ∙ same) in
-    let z : not true ≡ true = rw q at (b .1) in
-    let y : _≡_ {A = ℕ} 0 1 = cc in absurd (omega arith)
+    opens-told u (omega (arith, t .sized, t .inside)) (t .opening) .third (sym k ∙ same)
 
 none-past : (p : ℕ) (u : List ℕ) → NoneOfType 0xA5 (messages (eventsPast front p u))
 unfolding eventsPast
@@ -79,9 +74,27 @@ none-past zero (x ∷ xs) = go (front (x ∷ xs)) refl (λ p. none-past p xs)
     go (Whole n true) e ih = (type-told (x ∷ xs) n true e, ih (pred n))
     go (Whole n false) e ih = (type-told (x ∷ xs) n false e, ih 0)
 
-pub stray-marks : StrayMarks
+third-skips : (w : List ℕ) → typeOf w ≡ 0xA5 → opens w ≡ false
+third-skips [] e = let z : _≡_ {A = ℕ} 0 0xA5 = e in absurd (omega arith)
+third-skips (x ∷ []) e = let z : _≡_ {A = ℕ} 0 0xA5 = e in absurd (omega arith)
+third-skips (x ∷ y ∷ []) e = let z : _≡_ {A = ℕ} 0 0xA5 = e in absurd (omega arith)
+third-skips (x ∷ y ∷ s ∷ w) e = rw (eq-eqb s 0xA5 e, and-false)
+
+skips-something : (w : List ℕ) → typeOf w ≡ 0xA5 → events front w ≡ [] → ⊥
+skips-something [] e none = let z : _≡_ {A = ℕ} 0 0xA5 = e in absurd (omega arith)
+skips-something (x ∷ w) e none =
+    let s : events front (x ∷ w) ≡ skipped ∷ events front w =
+    cutting-harmless .scan-skip (x ∷ w) (omega arith) (sym (front-skip (x ∷ w) (third-skips (x ∷ w) e))) in
+    let l : length (events front (x ∷ w)) ≡ length (skipped ∷ events front w) = ap length s in
+    let n : length (events front (x ∷ w)) ≡ 0 = ap length none in
+    absurd (omega arith)
+
+held-type : (u : List ℕ) (k : ℕ) → seek front u ≡ Starved k → typeOf (drop k u) ≡ 0xA5 → ⊥
+held-type u k e same = skips-something (drop k u) same (starved-is cutting-harmless u k e .ends)
+
+pub stray-a5 : StrayA5
 unfolding front
-stray-marks =
+stray-a5 =
     record {
       third = λ v. events-stray (0xA5 ∷ v) refl;
       two-alone = refl;
@@ -89,4 +102,5 @@ stray-marks =
       run = run;
       run-held = run-held;
       never-reported = none-past 0;
+      never-held = held-type;
     }

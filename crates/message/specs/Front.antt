@@ -9,19 +9,19 @@ use Rattle.stream.specs.Framing.{frontBy}
 use Rattle.message.specs.Message.{lengthOf, sumsRight}
 
 -- The first byte is A5, or there is none.
-abbrev pub marked : List ℕ → Bool
-marked [] = true
-marked (b ∷ bs) = eqb b 0xA5
+abbrev pub a5OrNone : List ℕ → Bool
+a5OrNone [] = true
+a5OrNone (b ∷ bs) = eqb b 0xA5
 
 -- A first byte is there and is A5.
-abbrev pub startsWithMark : List ℕ → Bool
-startsWithMark [] = false
-startsWithMark (b ∷ bs) = eqb b 0xA5
+abbrev pub startsWithA5 : List ℕ → Bool
+startsWithA5 [] = false
+startsWithA5 (b ∷ bs) = eqb b 0xA5
 
 -- Not: the first byte is not A5, or a second byte is there and is not A5. And not (request 01): behind A5 A5 a third byte is
 -- there and is A5, for A5 is nobody's type.
 abbrev pub opens : List ℕ → Bool
-opens u = marked u && marked (drop 1 u) && not (startsWithMark (drop 2 u))
+opens u = a5OrNone u && a5OrNone (drop 1 u) && not (startsWithA5 (drop 2 u))
 
 -- L + 6 bytes.
 abbrev pub sizeOf : List ℕ → ℕ

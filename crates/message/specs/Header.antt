@@ -5,13 +5,13 @@ use Prim.Native.Nat.{ℕ}
 use lib.Dec.{leb}
 use lib.ListN.{length}
 use Rattle.message.specs.declared.header.Opening.{Opening}
-use Rattle.message.specs.declared.header.Opening.the-variants.{Shut, Short, Complete}
+use Rattle.message.specs.declared.header.Opening.the-variants.{NoMessage, Incomplete, Complete}
 use Rattle.message.specs.Front.{opens, sizeOf}
 
 -- Does the front open a message, are all n bytes of it there?
 abbrev pub openingOn : Bool → Bool → ℕ → Opening
-openingOn false there n = Shut
-openingOn true false n = Short
+openingOn false there n = NoMessage
+openingOn true false n = Incomplete
 openingOn true true n = Complete n
 
 unfoldable pub openingOf : List ℕ → Opening

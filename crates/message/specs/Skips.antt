@@ -9,12 +9,12 @@ use Rattle.stream.specs.Seek.{beyond, seek}
 use Rattle.message.specs.Front.{front}
 
 -- Is one of the bytes A5 (true), or is one that is not (false)?
-abbrev pub hasByte : Bool → List ℕ → Bool
-hasByte mark [] = false
-hasByte mark (b ∷ bs) = Bool·beq (eqb b 0xA5) mark || hasByte mark bs
+abbrev pub anyA5 : Bool → List ℕ → Bool
+anyA5 is [] = false
+anyA5 is (b ∷ bs) = Bool·beq (eqb b 0xA5) is || anyA5 is bs
 
 -- The bytes of s from `from` up to `to` are skipped, whatever follows s.
-pub record Skips (s : List ℕ) (from to : ℕ) : Type 0 where
+pub record SkippedPart (s : List ℕ) (from to : ℕ) : Type 0 where
   pub forward : from ≤ to
   pub inside : to ≤ length s
   pub sought : (v : List ℕ) → seek front (drop from s ++ v) ≡ beyond (to - from) (seek front (drop to s ++ v))
@@ -24,4 +24,4 @@ pub record RunAt (s : List ℕ) (from i : ℕ) : Type 0 where
   pub room : i + 2 ≤ length s
   pub first : getD s i 0 ≡ 0xA5
   pub second : getD s (i + 1) 0 ≡ 0xA5
-  pub before : Skips s from i
+  pub before : SkippedPart s from i

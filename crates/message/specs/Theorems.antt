@@ -71,8 +71,8 @@ abbrev pub NoneOfType : ℕ → List Message → Type 0
 NoneOfType kind [] = Unit {0}
 NoneOfType kind (m ∷ ms) = (typeOf (m .bytes) ≡ kind → ⊥) × NoneOfType kind ms
 
--- Request 01: one stray A5, or a run of them, costs no report. Proof: Strays `stray-marks`.
-pub record StrayMarks : Type 0 where
+-- Request 01: one stray A5, or a run of them, costs no report. Proof: Strays `stray-a5`.
+pub record StrayA5 : Type 0 where
   -- Behind A5 A5 a third byte is there and is A5: one byte is skipped and nothing reported.
   pub third : (v : List ℕ) → events front (0xA5 ∷ 0xA5 ∷ 0xA5 ∷ v) ≡ skipped ∷ events front (0xA5 ∷ 0xA5 ∷ v)
   -- A5 A5 alone is undecided, and so is one A5.
@@ -83,6 +83,9 @@ pub record StrayMarks : Type 0 where
   pub run-held : (k : ℕ) → seek front (replicate k 0xA5 ++ (0xA5 ∷ 0xA5 ∷ [])) ≡ Starved k
   -- "A5 is nobody's type": in no stream does the scan report a message of it, good or damaged.
   pub never-reported : (u : List ℕ) → NoneOfType 0xA5 (messages (events front u))
+  -- Nor is one held: what a seek leaves undecided has no A5 for its third byte. So of a run over the end of a chunk two bytes are
+  -- held at most, unless they stand in a message that began before it.
+  pub never-held : (u : List ℕ) (k : ℕ) → seek front u ≡ Starved k → typeOf (drop k u) ≡ 0xA5 → ⊥
 
 -- The fields of a payload are those whose bytes, one field after the other, are the payload, and no others. Proofs: FieldRows
 -- `fields-fill`, `fields-back`.

@@ -35,8 +35,8 @@ pub fn front_at(s: &[u8], at: usize) -> Verdict
     }
     let u = &s[at..];
     match opening_over(u, &u[0..0]) {
-        Opening::Shut => Verdict::Skip,
-        Opening::Short => Verdict::Undecided,
+        Opening::NoMessage => Verdict::Skip,
+        Opening::Incomplete => Verdict::Undecided,
         Opening::Complete(n) => Verdict::Whole(n, sums_right(s, at, n)),
     }
 }

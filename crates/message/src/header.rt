@@ -9,9 +9,9 @@ ghost use Rattle.message.specs.Header.{openingOf};
 // What the first bytes of what is unread tell of a message there.
 pub(crate) enum Opening {
     // None opens there.
-    Shut,
+    NoMessage,
     // One may open there, and not all of it is there.
-    Short,
+    Incomplete,
     // One opens there, of so many bytes, and all of it is there.
     Complete(usize),
 }
@@ -41,24 +41,24 @@ pub(crate) fn opening_over(held: &[u8], chunk: &[u8]) -> Opening
 {
     let left = held.len() + chunk.len();
     if left == 0 {
-        return Opening::Short;
+        return Opening::Incomplete;
     }
     if byte_over(held, chunk, 0) != 0xA5 {
-        return Opening::Shut;
+        return Opening::NoMessage;
     }
     if left < 2 {
-        return Opening::Short;
+        return Opening::Incomplete;
     }
     if byte_over(held, chunk, 1) != 0xA5 {
-        return Opening::Shut;
+        return Opening::NoMessage;
     }
     // 0 where there is no third byte
     if byte_over(held, chunk, 2) == 0xA5 {
-        return Opening::Shut;
+        return Opening::NoMessage;
     }
     let n = size_from(byte_over(held, chunk, 3));
     if left < n {
-        Opening::Short
+        Opening::Incomplete
     } else {
         Opening::Complete(n)
     }

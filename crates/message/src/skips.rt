@@ -3,17 +3,17 @@
 ghost use mathlib.Core.Path.{_≡_};
 ghost use Prim.Native.Nat.{_≤_};
 ghost use lib.ListN.{length};
-ghost use Rattle.message.specs.Skips.{hasByte, Skips, RunAt};
+ghost use Rattle.message.specs.Skips.{anyA5, SkippedPart, RunAt};
 
-// Whether one of the bytes is A5, or with `mark` false whether one is not. There is no branch out of the loop, so that a block of
+// Whether one of the bytes is A5, or with `is` false whether one is not. There is no branch out of the loop, so that a block of
 // fixed length is tested at once.
-fn has_byte(block: &[u8], mark: bool) -> bool
-    ensures { λ r. ⌜ r ≡ hasByte mark (now (block .entry)) ⌝ }
+fn any_a5(block: &[u8], is: bool) -> bool
+    ensures { λ r. ⌜ r ≡ anyA5 is (now (block .entry)) ⌝ }
 {
     let mut found = false;
     let mut i = 0;
     while i < block.len() {
-        found = found | ((block[i] == 0xA5) == mark);
+        found = found | ((block[i] == 0xA5) == is);
         i += 1;
     }
     found
@@ -22,11 +22,11 @@ fn has_byte(block: &[u8], mark: bool) -> bool
 // From `from` on, past as many blocks of 16 bytes as have no A5.
 fn past_blocks(s: &[u8], from: usize) -> usize
     requires { ⌜ from ≤ length (now s) ⌝ }
-    ensures { λ r. ⌜ Skips (now (s .entry)) from r ⌝ }
+    ensures { λ r. ⌜ SkippedPart (now (s .entry)) from r ⌝ }
 {
     let mut i = from;
     while 16 <= s.len() - i {
-        if has_byte(&s[i..i + 16], true) {
+        if any_a5(&s[i..i + 16], true) {
             return i;
         }
         i += 16;
@@ -35,9 +35,9 @@ fn past_blocks(s: &[u8], from: usize) -> usize
 }
 
 // The next A5 from `from` on, or the end.
-fn next_mark(s: &[u8], from: usize) -> usize
+fn next_a5(s: &[u8], from: usize) -> usize
     requires { ⌜ from ≤ length (now s) ⌝ }
-    ensures { λ r. ⌜ Skips (now (s .entry)) from r ⌝ }
+    ensures { λ r. ⌜ SkippedPart (now (s .entry)) from r ⌝ }
 {
     let mut i = past_blocks(s, from);
     while i < s.len() {
@@ -56,7 +56,7 @@ fn past_run_blocks(s: &[u8], from: usize) -> usize
 {
     let mut i = from;
     while 18 <= s.len() - i {
-        if has_byte(&s[i + 2..i + 18], false) {
+        if any_a5(&s[i + 2..i + 18], false) {
             return i;
         }
         i += 16;
@@ -64,10 +64,10 @@ fn past_run_blocks(s: &[u8], from: usize) -> usize
     i
 }
 
-// The last two bytes of a run of A5 from `from` on, or `from` where no two A5 stand.
+// The last two bytes of a run of A5 from `from` on, or `from` where no two A5 stand there.
 fn past_run(s: &[u8], from: usize) -> usize
     requires { ⌜ from ≤ length (now s) ⌝ }
-    ensures { λ r. ⌜ Skips (now (s .entry)) from r ⌝ }
+    ensures { λ r. ⌜ SkippedPart (now (s .entry)) from r ⌝ }
 {
     if s.len() - from < 2 {
         return from;
@@ -91,7 +91,7 @@ fn past_run(s: &[u8], from: usize) -> usize
 // The next place from `from` on that has to be looked at.
 pub(crate) fn past_skips(s: &[u8], from: usize) -> usize
     requires { ⌜ from ≤ length (now s) ⌝ }
-    ensures { λ r. ⌜ Skips (now (s .entry)) from r ⌝ }
+    ensures { λ r. ⌜ SkippedPart (now (s .entry)) from r ⌝ }
 {
-    past_run(s, next_mark(s, from))
+    past_run(s, next_a5(s, from))
 }

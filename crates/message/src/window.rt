@@ -53,8 +53,8 @@ pub fn front_over(held: &[u8], chunk: &[u8], at: usize) -> Verdict
         return front_at(chunk, at - h);
     }
     match opening_over(&held[at..], chunk) {
-        Opening::Shut => Verdict::Skip,
-        Opening::Short => Verdict::Undecided,
+        Opening::NoMessage => Verdict::Skip,
+        Opening::Incomplete => Verdict::Undecided,
         Opening::Complete(n) => Verdict::Whole(n, right_over(held, chunk, at, n)),
     }
 }

@@ -19,6 +19,10 @@ pub beyond-zero : (r : Sought) → beyond 0 r ≡ r
 beyond-zero (Starved j) = rw zero-add
 beyond-zero (Found j n good) = rw zero-add
 
+pub beyond-beyond : (a b : ℕ) (r : Sought) → beyond a (beyond b r) ≡ beyond (a + b) r
+beyond-beyond a b (Starved k) = let e : a + (b + k) ≡ a + b + k = omega arith in ap Starved e
+beyond-beyond a b (Found k n good) = let e : a + (b + k) ≡ a + b + k = omega arith in ap (λ (i : ℕ). Found i n good) e
+
 beyond-skip : (k : ℕ) (r : Sought) → beyond k (afterSkip r) ≡ beyond (suc k) r
 beyond-skip k (Starved j) = rw (add-suc, suc-add)
 beyond-skip k (Found j n good) = rw (add-suc, suc-add)

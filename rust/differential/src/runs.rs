@@ -7,8 +7,8 @@ use plain::generate::{self, Behind, Call, Rng, Step};
 
 const LONGEST: usize = 320;
 
-/// Runs up to this length are cut at every place, longer ones at random.
-const SHORT: usize = 8;
+/// Runs up to this length, two of the library's blocks of 16 bytes and more, are cut at every place, longer ones at random.
+const SHORT: usize = 36;
 
 /// Each length, in front of each kind of thing, and in a payload.
 pub fn all(calls: &impl Calls, rng: &mut Rng, ran: &mut Ran) -> Outcome {

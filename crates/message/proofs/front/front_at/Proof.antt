@@ -1,5 +1,5 @@
 -- `message::front::front_at` meets its contract: each verdict is that of what the first bytes tell.
-use Rattle.message.proofs.Openings.{front-shut, front-short, front-complete}
+use Rattle.message.proofs.Openings.{front-no-message, front-incomplete, front-complete}
 use Rattle.message.proofs.Fronts.{front-none, opening-here, complete-within}
 use borrow.Author.Needs.{needs}
 use Rattle.message.proofs.front.front_at.Statement.{statement}
@@ -47,10 +47,10 @@ sums-right-requires c κs =
     complete-within s at _ (opening-here s at _ (found .opening-over .ensures)) _ (c .before .n .given .1) (found .before .before .before .if1 .left)
 
 returns-2 : tie.Need-returns-2
-returns-2 c = search (front-shut, opening-here, needs)
+returns-2 c = search (front-no-message, opening-here, needs)
 
 returns-3 : tie.Need-returns-3
-returns-3 c = search (front-short, opening-here, needs)
+returns-3 c = search (front-incomplete, opening-here, needs)
 
 returns-4 : tie.Need-returns-4
 returns-4 c = search (front-complete, opening-here, needs)

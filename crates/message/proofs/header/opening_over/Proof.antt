@@ -1,6 +1,5 @@
--- `message::header::opening_over` meets its contract: each `return` is a case of what the bytes tell. `fits`: the search may take so
--- many steps, so that a wrong program is refused only after every way was tried.
-use Rattle.message.proofs.Openings.{told-none, told-first, told-one, told-second, told-third, told-short, told-complete}
+-- `message::header::opening_over` meets its contract: each `return` is a case of what the bytes tell.
+use Rattle.message.proofs.Openings.{told-none, told-first, told-one, told-second, told-third, told-incomplete, told-complete}
 use borrow.Author.Needs.{needs}
 use Rattle.message.proofs.header.opening_over.Statement.{statement}
 use Rattle.message.proofs.header.opening_over.Tie as tie
@@ -30,7 +29,12 @@ byte-over-requires-3 : tie.Need-byte-over-requires-3
 byte-over-requires-3 c κs = search needs
 
 returns-5 : tie.Need-returns-5
-returns-5 c = search (told-third, needs) fits 100000
+returns-5 c =
+    let second = c .before .before .before in
+    let first = second .before .before .before in
+    let start = first .before .before .before .before in
+    told-third (start .args .held .now) (start .args .chunk .now) (first .before .if1 .left) _ (first .byte-over .ensures) (search needs) (search needs) _
+    (second .byte-over2 .ensures) (search needs) _ (c .before .byte-over3 .ensures) (search needs)
 
 byte-over-requires-4 : tie.Need-byte-over-requires-4
 byte-over-requires-4 c κs = search needs
@@ -39,10 +43,22 @@ size-from-requires : tie.Need-size-from-requires
 size-from-requires c κs = search needs
 
 returns-6 : tie.Need-returns-6
-returns-6 c = search (told-short, needs) fits 100000
+returns-6 c =
+    let third = c .before .before .before .before in
+    let second = third .before .before in
+    let first = second .before .before .before in
+    let start = first .before .before .before .before in
+    told-incomplete (start .args .held .now) (start .args .chunk .now) (first .before .if1 .left) _ (first .byte-over .ensures) (search needs) (search needs) _
+    (second .byte-over2 .ensures) (search needs) _ (third .byte-over3 .ensures) (search needs) _ (c .before .before .byte-over4 .ensures) _ (c .before .size-from .ensures) (c .if6 .taken)
 
 returns-7 : tie.Need-returns-7
-returns-7 c = search (told-complete, needs) fits 100000
+returns-7 c =
+    let third = c .before .before .before .before in
+    let second = third .before .before in
+    let first = second .before .before .before in
+    let start = first .before .before .before .before in
+    told-complete (start .args .held .now) (start .args .chunk .now) (first .before .if1 .left) _ (first .byte-over .ensures) (search needs) (search needs) _
+    (second .byte-over2 .ensures) (search needs) _ (third .byte-over3 .ensures) (search needs) _ (c .before .before .byte-over4 .ensures) _ (c .before .size-from .ensures) (c .if6 .left)
 
 pub opening-over-spec : {M : Type 1} → statement M
 opening-over-spec =

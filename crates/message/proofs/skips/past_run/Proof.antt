@@ -3,7 +3,7 @@ use Prim.Native.Nat.{_-_}
 use lib.ListN.{length}
 use borrow.Author.Needs.{needs}
 use Rattle.message.specs.Skips.{RunAt}
-use Rattle.message.proofs.Skipped.{skips-none, run-starts, run-more, run-skips}
+use Rattle.message.proofs.Skipped.{skips-none, run-starts, run-more}
 use Rattle.message.proofs.skips.past_run.Statement.{statement}
 use Rattle.message.proofs.skips.past_run.Tie as tie
 
@@ -50,7 +50,7 @@ shared-slice-read-if4 : tie.Need-shared-slice-read-if4 Inv-loop μ-loop
 shared-slice-read-if4 c = search needs
 
 returns-4 : tie.Need-returns-4 Inv-loop μ-loop
-returns-4 c = search (run-skips, needs)
+returns-4 c = search needs
 
 add-at : tie.Need-add-at Inv-loop μ-loop
 add-at c = search needs
@@ -62,7 +62,7 @@ loop-again : tie.Need-loop-again Inv-loop μ-loop
 loop-again c = search (run-more, needs)
 
 returns-5 : tie.Need-returns-5 Inv-loop μ-loop
-returns-5 c = search (run-skips, needs)
+returns-5 c = search needs
 
 pub past-run-spec : {M : Type 1} → statement M
 past-run-spec =

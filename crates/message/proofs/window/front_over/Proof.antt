@@ -1,5 +1,5 @@
 -- `message::window::front_over` meets its contract: each verdict is that of what the first bytes tell.
-use Rattle.message.proofs.Openings.{front-shut, front-short, front-complete}
+use Rattle.message.proofs.Openings.{front-no-message, front-incomplete, front-complete}
 use Rattle.message.proofs.Windows.{front-chunk, opening-held, complete-over}
 use borrow.Author.Needs.{needs}
 use Rattle.message.proofs.window.front_over.Statement.{statement}
@@ -43,10 +43,10 @@ right-over-requires c κs =
     complete-over held chunk at _ h (opening-held held chunk at _ h (found .opening-over .ensures)) _ (c .before .n .given .1)
 
 returns-2 : tie.Need-returns-2
-returns-2 c = search (front-shut, opening-held, needs)
+returns-2 c = search (front-no-message, opening-held, needs)
 
 returns-3 : tie.Need-returns-3
-returns-3 c = search (front-short, opening-held, needs)
+returns-3 c = search (front-incomplete, opening-held, needs)
 
 returns-4 : tie.Need-returns-4
 returns-4 c = search (front-complete, opening-held, needs)

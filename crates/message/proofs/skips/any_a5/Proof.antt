@@ -1,19 +1,19 @@
--- `message::skips::has_byte` meets its contract. The invariant: such a byte is there where one was found or one is in the rest.
+-- `message::skips::any_a5` meets its contract. The invariant: such a byte is there where one was found or one is in the rest.
 use Prim.Native.Nat.{_-_}
 use mathlib.Core.Path.{_≡_}
 use mathlib.Core.Bool.{_||_}
 use lib.ListN.{length, drop}
 use borrow.Author.Needs.{needs}
-use Rattle.message.specs.Skips.{hasByte}
+use Rattle.message.specs.Skips.{anyA5}
 use Rattle.message.proofs.Skipped.{byte-more, byte-all}
-use Rattle.message.proofs.skips.has_byte.Statement.{statement}
-use Rattle.message.proofs.skips.has_byte.Tie as tie
+use Rattle.message.proofs.skips.any_a5.Statement.{statement}
+use Rattle.message.proofs.skips.any_a5.Tie as tie
 
 abbrev Inv-loop : tie.InvT-loop
-Inv-loop block mark found₀ i₀ found i = hasByte mark block ≡ found || hasByte mark (drop i block)
+Inv-loop block is found₀ i₀ found i = anyA5 is block ≡ found || anyA5 is (drop i block)
 
 abbrev μ-loop : tie.MeasureT-loop
-μ-loop block mark found₀ i₀ found i = length block - i
+μ-loop block is found₀ i₀ found i = length block - i
 
 loop-holds : tie.Need-loop-holds Inv-loop μ-loop
 loop-holds c = search needs
@@ -33,8 +33,8 @@ loop-again c = search (byte-more, needs)
 returns : tie.Need-returns Inv-loop μ-loop
 returns c = search (byte-all, needs)
 
-pub has-byte-spec : {M : Type 1} → statement M
-has-byte-spec =
+pub any-a5-spec : {M : Type 1} → statement M
+any-a5-spec =
     tie.close
     (tie.spec
     Inv-loop

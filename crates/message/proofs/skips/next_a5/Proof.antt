@@ -1,14 +1,14 @@
--- `message::skips::next_mark` meets its contract. The invariant: what is before `i` is skipped.
+-- `message::skips::next_a5` meets its contract. The invariant: what is before `i` is skipped.
 use Prim.Native.Nat.{_-_}
 use lib.ListN.{length}
 use borrow.Author.Needs.{needs}
-use Rattle.message.specs.Skips.{Skips}
+use Rattle.message.specs.Skips.{SkippedPart}
 use Rattle.message.proofs.Skipped.{skips-other}
-use Rattle.message.proofs.skips.next_mark.Statement.{statement}
-use Rattle.message.proofs.skips.next_mark.Tie as tie
+use Rattle.message.proofs.skips.next_a5.Statement.{statement}
+use Rattle.message.proofs.skips.next_a5.Tie as tie
 
 abbrev Inv-loop : tie.InvT-loop
-Inv-loop s from i₀ i = Skips s from i
+Inv-loop s from i₀ i = SkippedPart s from i
 
 abbrev μ-loop : tie.MeasureT-loop
 μ-loop s from i₀ i = length s - i
@@ -37,8 +37,8 @@ loop-again c = search (skips-other, needs)
 returns-2 : tie.Need-returns-2 Inv-loop μ-loop
 returns-2 c = search needs
 
-pub next-mark-spec : {M : Type 1} → statement M
-next-mark-spec =
+pub next-a5-spec : {M : Type 1} → statement M
+next-a5-spec =
     tie.close
     (tie.spec
     Inv-loop
