@@ -63,6 +63,11 @@ module _ (u : List ℕ) where
   unfolding openingOf
   opening-complete e h = rw (e, le-leb (sizeOf u) (length u) h)
 
+-- The first four bytes open a message of n bytes.
+pub record SizeTold (held chunk : List ℕ) (n : ℕ) : Type 0 where
+  pub opening : opens (held ++ chunk) ≡ true
+  pub sized : sizeOf (held ++ chunk) ≡ n
+
 -- By the bytes x, y, s and z that were read as the first four of held bytes and then a chunk.
 module _ (held chunk : List ℕ) where
   long : length (held ++ chunk) ≡ length held + length chunk
@@ -98,15 +103,16 @@ module _ (held chunk : List ℕ) where
           pub told-third : s ≡ 0xA5 → NoMessage ≡ openingOf (held ++ chunk)
           told-third g = opening-none (held ++ chunk) (opens-on true (eq-eqb _ _ g))
 
-          module _ (g : s ≡ 0xA5 → ⊥) (z : ℕ) (r : z ≡ getD (held ++ chunk) 3 0) (n : ℕ) (t : n ≡ z % 256 + 6) where
-            size-told : sizeOf (held ++ chunk) ≡ n
-            size-told = rw (t, r)
+          pub told-size : (s ≡ 0xA5 → ⊥) → (z : ℕ) → z ≡ getD (held ++ chunk) 3 0 → (n : ℕ) → n ≡ z % 256 + 6 → SizeTold held chunk n
+          told-size g z r n t = record { opening = opens-on false (ne-eqb _ _ g); sized = rw (t, r) }
 
-            pub told-incomplete : length held + length chunk < n → Incomplete ≡ openingOf (held ++ chunk)
-            told-incomplete k = opening-incomplete (held ++ chunk) (opens-on false (ne-eqb _ _ g)) (rw (size-told, long) k)
+-- By the size, where the four bytes open a message.
+module _ (held chunk : List ℕ) (n : ℕ) (told : SizeTold held chunk n) where
+  pub told-incomplete : length held + length chunk < n → Incomplete ≡ openingOf (held ++ chunk)
+  told-incomplete k = opening-incomplete (held ++ chunk) (told .opening) (rw (told .sized, long held chunk) k)
 
-            pub told-complete : n ≤ length held + length chunk → Complete n ≡ openingOf (held ++ chunk)
-            told-complete k = rw size-told at (opening-complete (held ++ chunk) (opens-on false (ne-eqb _ _ g)) (rw (size-told, long) k))
+  pub told-complete : n ≤ length held + length chunk → Complete n ≡ openingOf (held ++ chunk)
+  told-complete k = rw (told .sized) at (opening-complete (held ++ chunk) (told .opening) (rw (told .sized, long held chunk) k))
 
 -- ---- the front by the opening
 

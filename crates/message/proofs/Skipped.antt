@@ -37,7 +37,7 @@ module _ (s : List ℕ) where
 
   -- A place at which no message opens, whatever follows.
   skips-one : (i : ℕ) → i < length s → ((v : List ℕ) → opens (drop i s ++ v) ≡ false) → SkippedPart s i (i + 1)
-  skips-one i h shut =
+  skips-one i h no-opening =
       record {
         forward = omega arith;
         inside = omega arith;
@@ -46,7 +46,7 @@ module _ (s : List ℕ) where
             let l : 0 < length w = rw (length-append, length-drop) (omega arith) in
             let d : drop (0 + 1) w ≡ drop (i + 1) s ++ v = rw (drop-append-le 1 (drop i s) v (rw length-drop (omega arith)), drop-drop) in
             let k : i + 1 - i ≡ 0 + 1 = omega arith in
-            rw (k, ← d) (seek-skips front w 0 Skip (front-skip w (shut v)) l refl (seek-starts front w));
+            rw (k, ← d) (seek-skips front w 0 Skip (front-skip w (no-opening v)) l refl (seek-starts front w));
       }
 
   byte : (i k : ℕ) (v : List ℕ) → i + k < length s → getD (drop i s ++ v) k 0 ≡ getD s (i + k) 0
@@ -54,22 +54,22 @@ module _ (s : List ℕ) where
 
   -- What is no A5.
   pub skips-other : (from i : ℕ) → i < length s → (getD s i 0 ≡ 0xA5 → ⊥) → SkippedPart s from i → SkippedPart s from (i + 1)
-  skips-other from i h n before = skips-on before (skips-one i h shut)
+  skips-other from i h n before = skips-on before (skips-one i h no-opening)
     where
-      shut : (v : List ℕ) → opens (drop i s ++ v) ≡ false
-      shut v =
+      no-opening : (v : List ℕ) → opens (drop i s ++ v) ≡ false
+      no-opening v =
           opens-first (drop i s ++ v) (rw (length-append, length-drop) (omega arith)) (λ e. n (rw add-zero at (sym (byte i 0 v (omega arith)) ∙ e)))
 
   -- An A5 that two more follow.
   skips-stray : (from i : ℕ) → i + 2 < length s → getD s i 0 ≡ 0xA5 → getD s (i + 1) 0 ≡ 0xA5 → getD s (i + 2) 0 ≡ 0xA5
       → SkippedPart s from i → SkippedPart s from (i + 1)
-  skips-stray from i h x y z before = skips-on before (skips-one i (omega arith) shut)
+  skips-stray from i h x y z before = skips-on before (skips-one i (omega arith) no-opening)
     where
       is : (k : ℕ) (v : List ℕ) → i + k < length s → getD s (i + k) 0 ≡ 0xA5 → eqb (getD (drop i s ++ v) k 0) 0xA5 ≡ true
       is k v l e = eq-eqb _ _ (byte i k v l ∙ e)
 
-      shut : (v : List ℕ) → opens (drop i s ++ v) ≡ false
-      shut v =
+      no-opening : (v : List ℕ) → opens (drop i s ++ v) ≡ false
+      no-opening v =
           opens-bytes (drop i s ++ v) (rw (length-append, length-drop) (omega arith))
           ∙ rw (is 0 v (omega arith) (rw add-zero x), is 1 v (omega arith) y, is 2 v h z)
 

@@ -34,15 +34,15 @@ seek-stray : (u : List ℕ) → startsWithA5 u ≡ true → seek front (0xA5 ∷
 unfolding seek
 seek-stray u e = rw (front-stray u e)
 
-run-starts : (k : ℕ) (v : List ℕ) → startsWithA5 (replicate k 0xA5 ++ (0xA5 ∷ v)) ≡ true
-run-starts zero v = refl
-run-starts (suc k) v = refl
+run-head : (k : ℕ) (v : List ℕ) → startsWithA5 (replicate k 0xA5 ++ (0xA5 ∷ v)) ≡ true
+run-head zero v = refl
+run-head (suc k) v = refl
 
 run : (k : ℕ) (v : List ℕ) → events front (replicate k 0xA5 ++ (0xA5 ∷ 0xA5 ∷ v)) ≡ skips k ++ events front (0xA5 ∷ 0xA5 ∷ v)
 run zero v = refl
 run (suc zero) v = events-stray (0xA5 ∷ v) refl
 run (suc (suc k)) v =
-    events-stray (replicate k 0xA5 ++ (0xA5 ∷ 0xA5 ∷ v)) (run-starts k (0xA5 ∷ v))
+    events-stray (replicate k 0xA5 ++ (0xA5 ∷ 0xA5 ∷ v)) (run-head k (0xA5 ∷ v))
     ∙ ap (λ (es : List Event). skipped ∷ es) (run (suc k) v)
 
 run-held : (k : ℕ) → seek front (replicate k 0xA5 ++ (0xA5 ∷ 0xA5 ∷ [])) ≡ Starved k
@@ -50,7 +50,7 @@ unfolding seek front
 run-held zero = refl
 run-held (suc zero) = refl
 run-held (suc (suc k)) =
-    seek-stray (replicate k 0xA5 ++ (0xA5 ∷ 0xA5 ∷ [])) (run-starts k (0xA5 ∷ []))
+    seek-stray (replicate k 0xA5 ++ (0xA5 ∷ 0xA5 ∷ [])) (run-head k (0xA5 ∷ []))
     ∙ ap afterSkip (run-held (suc k))
 
 -- ---- the type
