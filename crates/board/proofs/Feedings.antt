@@ -28,9 +28,8 @@ use Rattle.command.specs.declared.settings.Settings.{Settings}
 use Rattle.command.specs.declared.command.Command.{Command}
 use Rattle.command.specs.Command.{commandOf}
 use Rattle.command.specs.Errors.{errorOf}
-use Rattle.command.specs.Effects.{workingValue, effectOf, replyPayload, replyOf}
-use Rattle.command.specs.Answer.{loadedFrom, isSave, pageAfter, settingsFrom, answering}
-use Rattle.command.specs.Handle.{settingsAllowed, replyRoom}
+use Rattle.command.specs.Effects.{workingValue, effectOf, replyPayload, replyOf, settingsAllowed}
+use Rattle.command.specs.Answer.{loadedFrom, isSave, pageAfter, settingsFrom, answering, replyRoom}
 use Rattle.command.proofs.Keeps.{factory-allowed, effect-row, reply-fits}
 use Rattle.command.proofs.Pages.{loaded-stored, page-changes, reply-whole, answer-keeps}
 use Rattle.page.specs.declared.setting.Setting.the-variants.{Baud, Accelerometer, Gyroscope}

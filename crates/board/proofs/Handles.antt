@@ -20,9 +20,8 @@ use Rattle.page.proofs.Pages.{writing-size, read-back, writing-sound}
 use Rattle.command.specs.declared.settings.Settings.{Settings}
 use Rattle.command.specs.declared.command.Command.{Command}
 use Rattle.command.specs.Command.{commandOf}
-use Rattle.command.specs.Effects.{workingValue, Effect, effectOf}
+use Rattle.command.specs.Effects.{workingValue, Effect, effectOf, settingsAllowed}
 use Rattle.command.specs.Answer.{loadedFrom, pageAfter}
-use Rattle.command.specs.Handle.{settingsAllowed}
 use Rattle.command.proofs.Keeps.{value-allowed, keeps-allowed}
 use Rattle.command.proofs.Pages.{loaded-stored, page-changes, put-allowed}
 use Rattle.board.specs.Handling.{Reckoned, Kept, loadedOf, valuesAfter, reckonMessage, handleMessage, keptTests, StoredAs}

@@ -1,3 +1,4 @@
+pub mod Alone
 pub mod Feedings
 pub mod Follows
 pub mod Handles

@@ -23,8 +23,8 @@ use Rattle.page.specs.Sound.{sound, pageNumber}
 use Rattle.page.proofs.Pages.{sound-is-writing, writing-sound, sound-passes}
 use Rattle.page.specs.declared.setting.Setting.the-variants.{Baud, Accelerometer, Gyroscope}
 use Rattle.command.specs.declared.settings.Settings.{Settings}
-use Rattle.command.specs.Answer.{settingsFrom}
-use Rattle.command.specs.Handle.{settingsAllowed, replyRoom}
+use Rattle.command.specs.Answer.{settingsFrom, replyRoom}
+use Rattle.command.specs.Effects.{settingsAllowed}
 use Rattle.board.specs.declared.board.Board.{Board}
 use Rattle.board.specs.declared.board.Started.{Started}
 use Rattle.board.specs.Port.{portRoom, heldBytes, portHolding, portOf}

@@ -10,9 +10,8 @@ use Rattle.page.specs.Lookup.{entryFrom, entryOf, partOf, bodyOf, valuesIn}
 use Rattle.page.specs.Sound.{sound, pageNumber, pageWriting}
 use Rattle.command.specs.Command.{commandOf, subjectOf}
 use Rattle.command.specs.Errors.{fieldWrong, errorOf}
-use Rattle.command.specs.Effects.{effectOf}
+use Rattle.command.specs.Effects.{effectOf, settingsAllowed}
 use Rattle.command.specs.Answer.{loadedFrom, settingsFrom, answering}
-use Rattle.command.specs.Handle.{settingsAllowed}
 use Rattle.board.specs.Port.{portHolding}
 use Rattle.board.specs.Start.{startOf}
 use Rattle.board.specs.Feed.{unsound, feedNumber, stepOf, feedOf}

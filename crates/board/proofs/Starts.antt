@@ -15,7 +15,7 @@ use Rattle.page.specs.Sound.{pageNumber}
 use Rattle.command.specs.declared.settings.Settings.{Settings}
 use Rattle.command.specs.Command.{commandOf}
 use Rattle.command.specs.Answer.{settingsFrom, Answering, answering}
-use Rattle.command.specs.Handle.{settingsAllowed}
+use Rattle.command.specs.Effects.{settingsAllowed}
 use Rattle.board.specs.declared.board.Board.{Board}
 use Rattle.board.specs.declared.port.Port.{Port}
 use Rattle.board.specs.Port.{freshPort}

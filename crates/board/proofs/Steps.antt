@@ -18,8 +18,8 @@ use Rattle.page.specs.Page.{pageSize}
 use Rattle.page.specs.Sound.{sound, pageNumber}
 use Rattle.command.specs.declared.settings.Settings.{Settings}
 use Rattle.command.specs.Command.{commandOf}
-use Rattle.command.specs.Answer.{answering}
-use Rattle.command.specs.Handle.{settingsAllowed, replyRoom}
+use Rattle.command.specs.Answer.{answering, replyRoom}
+use Rattle.command.specs.Effects.{settingsAllowed}
 use Rattle.command.proofs.Pages.{reply-whole}
 use Rattle.board.specs.declared.port.Port.{Port}
 use Rattle.board.specs.declared.board.Board.{Board}

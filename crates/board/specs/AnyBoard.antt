@@ -15,7 +15,7 @@ use Rattle.page.specs.declared.setting.Setting.{Setting}
 use Rattle.page.specs.Page.{pageSize}
 use Rattle.page.specs.Sound.{sound, pageNumber, savedPage}
 use Rattle.command.specs.Effects.{workingValue}
-use Rattle.command.specs.Handle.{replyRoom}
+use Rattle.command.specs.Answer.{replyRoom}
 use Rattle.board.specs.declared.board.Board.{Board}
 use Rattle.board.specs.Port.{portRoom, heldBytes, portHolding, portOf, withPort}
 use Rattle.board.specs.Start.{factorySettings, freshBoard, startOf}

@@ -12,8 +12,8 @@ use Rattle.message.specs.Whole.{refuse}
 use Rattle.page.specs.Sound.{pageNumber}
 use Rattle.command.specs.declared.settings.Settings.{Settings}
 use Rattle.command.specs.Command.{commandOf}
-use Rattle.command.specs.Answer.{Answering, answering}
-use Rattle.command.specs.Handle.{settingsAllowed, replyRoom}
+use Rattle.command.specs.Answer.{Answering, answering, replyRoom}
+use Rattle.command.specs.Effects.{settingsAllowed}
 use Rattle.board.specs.declared.board.Board.{Board}
 use Rattle.board.specs.declared.board.Fed.{Fed}
 use Rattle.board.specs.declared.feeding.Stepped.{Stepped}

@@ -20,9 +20,8 @@ use Rattle.page.specs.Theorems.{valueOr}
 use Rattle.command.specs.declared.settings.Settings.{Settings}
 use Rattle.command.specs.declared.command.Command.{Command}
 use Rattle.command.specs.Command.{commandOf}
-use Rattle.command.specs.Effects.{workingValue, Effect, effectOf, replyOf}
+use Rattle.command.specs.Effects.{workingValue, Effect, effectOf, replyOf, settingsAllowed}
 use Rattle.command.specs.Answer.{loadedFrom, isSave, pageAfter}
-use Rattle.command.specs.Handle.{settingsAllowed}
 
 -- ---- the reckoning
 

@@ -1,3 +1,4 @@
+pub mod Alone
 pub mod AnyBoard
 pub mod Feed
 pub mod Handling

@@ -9,7 +9,7 @@ use Rattle.history.specs.Reckoning.{Ledger, reckoning}
 use Rattle.message.specs.Front.{front}
 use Rattle.page.specs.declared.setting.Values.{Values}
 use Rattle.page.specs.Page.{writing}
-use Rattle.command.specs.Handle.{replyRoom}
+use Rattle.command.specs.Answer.{replyRoom}
 use Rattle.board.specs.declared.board.Board.{Board}
 use Rattle.board.specs.Feed.{Feeding, feedOf}
 use Rattle.board.specs.Handling.{Reckoned, settingsOf, reckonMessage}

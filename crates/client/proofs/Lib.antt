@@ -1,4 +1,3 @@
-pub mod Calls
 pub mod Commands
 pub mod Obedience
 pub mod Readings

@@ -101,7 +101,7 @@ does Ping f v a = record { no-error = refl; effect = λ loaded w. refl }
 does (About s) f v a = about-does s f v a
 does Unknown f v a = differ (sym a)
 
-field-short : (s : Subject) (f v : ℕ) → length (fieldFor s f v) ≤ 255
+pub field-short : (s : Subject) (f v : ℕ) → length (fieldFor s f v) ≤ 255
 field-short Ping f v = omega arith
 field-short (About s) f v = go (eqb f 1) s
   where

@@ -21,8 +21,7 @@ use Rattle.command.specs.declared.command.Subject.{Subject}
 use Rattle.command.specs.declared.command.Subject.the-variants.{Ping, Setting as About, Unknown}
 use Rattle.command.specs.Command.{subjectOf}
 use Rattle.command.specs.Errors.{errorOf}
-use Rattle.command.specs.Effects.{valueRow, workingValue, effectOf, replyPayload, replyOf}
-use Rattle.command.specs.Handle.{settingsAllowed}
+use Rattle.command.specs.Effects.{valueRow, workingValue, effectOf, replyPayload, replyOf, settingsAllowed}
 use Rattle.client.specs.Reader.{isPlain, valueIn, replyOn, replyRead}
 use Rattle.client.specs.Theorems.{reported, RepliesRead}
 use Rattle.stream.proofs.Bools.{and-both}

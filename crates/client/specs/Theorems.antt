@@ -16,10 +16,7 @@ use Rattle.command.specs.declared.command.Subject.{Subject}
 use Rattle.command.specs.declared.command.Subject.the-variants.{Ping, Setting as About, Unknown}
 use Rattle.command.specs.Command.{commandOf, subjectOf}
 use Rattle.command.specs.Errors.{errorOf}
-use Rattle.command.specs.Effects.{Effect, leaving, functionEffect, workingValue, effectOf, replyOf}
-use Rattle.page.specs.Sound.{sound}
-use Rattle.command.specs.Answer.{loadedFrom, answerWith}
-use Rattle.command.specs.Handle.{settingsAllowed, replyRoom, handlingOn, handling}
+use Rattle.command.specs.Effects.{Effect, leaving, functionEffect, workingValue, effectOf, replyOf, settingsAllowed}
 use Rattle.client.specs.Writer.{codeSubject, acceptable, commandMessage}
 use Rattle.client.specs.Reader.{replyRead}
 
@@ -39,15 +36,6 @@ pub record Obeyed (code function value : ℕ) : Type 0 where
 
 abbrev pub WrittenIsObeyed : Type 0
 WrittenIsObeyed = (code function value : ℕ) → acceptable (codeSubject code) function value ≡ true → Obeyed code function value
-
--- On a board with allowed settings and a sound page, in a room of 16 bytes, the call that handles the message answers number 0
--- and error 0, with that effect, its reply and its page.
-abbrev pub CallObeys : Type 0
-CallObeys =
-    (code function value : ℕ) (w : Settings) (room page : List ℕ) → acceptable (codeSubject code) function value ≡ true
-    → settingsAllowed w ≡ true → replyRoom ≤ length room → sound page ≡ true
-    → handling (commandMessage code function value) w room page
-    ≡ handlingOn 0 w room page (answerWith 0 (effectFor (codeSubject code) (loadedFrom page) w function value) (commandOf true (commandMessage code function value)) w room page)
 
 -- A payload without the value bytes that are not looked at: those of the functions 2 to 5.
 abbrev pub lookedAt : ℕ → List ℕ → List ℕ

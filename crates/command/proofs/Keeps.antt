@@ -16,8 +16,7 @@ use Rattle.command.specs.declared.command.Subject.{Subject}
 use Rattle.command.specs.declared.command.Subject.the-variants.{Ping, Setting as About, Unknown}
 use Rattle.command.specs.Command.{valueFor, subjectOf}
 use Rattle.command.specs.Errors.{errorOf, valueRight}
-use Rattle.command.specs.Effects.{workingValue, withWorking, valueRow, functionEffect, fieldEffect, effectOn, effectOf, replyPayload, replyOf}
-use Rattle.command.specs.Handle.{settingsAllowed}
+use Rattle.command.specs.Effects.{workingValue, withWorking, valueRow, functionEffect, fieldEffect, effectOn, effectOf, replyPayload, replyOf, settingsAllowed}
 use Rattle.command.specs.Theorems.{KeepsAllowed, SaveOf, SavesOnly, SavesThen, ReplyFits}
 use Rattle.stream.proofs.Bools.{and-both}
 use Rattle.command.proofs.Accepts.{accepted}

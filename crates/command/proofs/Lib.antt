@@ -1,6 +1,5 @@
 pub mod Accepts
 pub mod Answers
-pub mod Handles
 pub mod Keeps
 pub mod Loads
 pub mod Pages

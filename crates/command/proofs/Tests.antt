@@ -15,7 +15,7 @@ use Rattle.command.specs.declared.command.Subject.the-variants.{Ping, Se
 use Rattle.command.specs.Command.{valueFor, subjectOf}
 use Rattle.message.specs.Whole.{refuse}
 use Rattle.command.specs.Errors.{isUnknown, fieldWrong, typeError, fieldError, errorOf}
-use Rattle.command.specs.Handle.{settingsAllowed}
+use Rattle.command.specs.Effects.{settingsAllowed}
 
 -- ---- the size
 

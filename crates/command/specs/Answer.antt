@@ -42,6 +42,10 @@ abbrev pub pageAfter : Option Setting → Settings → List ℕ → List ℕ
 pageAfter none w page = page
 pageAfter (some s) w page = pageWriting (withValue (valuesIn page) s (workingValue w s)) page .page
 
+-- The longest reply is 16 bytes. 18: a feed's room under 16 bytes.
+abbrev pub replyRoom : ℕ
+replyRoom = 16
+
 -- What answering a command gives: the answer, and the room and the page afterwards.
 pub record Answering : Type 0 where
   pub answer : Answer

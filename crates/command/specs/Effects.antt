@@ -1,10 +1,11 @@
 -- Document 01, "Handling one message": what an accepted command does.
+use mathlib.Core.Bool.{Bool, _&&_}
 use mathlib.Core.List.{List, [], _∷_}
 use mathlib.Core.Option.{Option, none, some}
 use Prim.Native.Nat.{ℕ, zero, suc, _<_}
 use Rattle.page.specs.declared.setting.Setting.{Setting}
 use Rattle.page.specs.declared.setting.Setting.the-variants.{Baud, Accelerometer, Gyroscope}
-use Rattle.page.specs.Settings.{codeOf, valueBytes, valueSize, factoryValue}
+use Rattle.page.specs.Settings.{codeOf, allowed, valueBytes, valueSize, factoryValue}
 use Rattle.message.specs.Message.{messageOf}
 use Rattle.command.specs.declared.settings.Settings.{Settings}
 use Rattle.command.specs.declared.command.Command.{Command}
@@ -30,6 +31,10 @@ abbrev pub Fits : Setting → ℕ → Type 0
 Fits Baud x = x < 4294967296
 Fits Accelerometer x = x < 256
 Fits Gyroscope x = x < 256
+
+-- Each working value is allowed.
+unfoldable pub settingsAllowed : Settings → Bool
+settingsAllowed w = allowed Baud (w .baud) && allowed Accelerometer (w .accelerometer) && allowed Gyroscope (w .gyroscope)
 
 -- ---- one field
 

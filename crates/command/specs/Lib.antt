@@ -2,5 +2,4 @@ pub mod Answer
 pub mod Command
 pub mod Effects
 pub mod Errors
-pub mod Handle
 pub mod Theorems

@@ -17,9 +17,8 @@ use Rattle.message.specs.Message.{lengthOf}
 use Rattle.command.specs.declared.command.Subject.the-variants.{Setting as About}
 use Rattle.command.specs.Command.{commandOf, subjectOf}
 use Rattle.command.specs.Errors.{errorOf}
-use Rattle.command.specs.Effects.{workingValue, effectOf, replyOf}
-use Rattle.command.specs.Answer.{loadedFrom, pageAfter, answering}
-use Rattle.command.specs.Handle.{settingsAllowed, replyRoom}
+use Rattle.command.specs.Effects.{workingValue, effectOf, replyOf, settingsAllowed}
+use Rattle.command.specs.Answer.{loadedFrom, pageAfter, answering, replyRoom}
 
 -- Handling keeps the working values allowed, whatever the command, if what is loaded is allowed.
 abbrev pub KeepsAllowed : Type 0

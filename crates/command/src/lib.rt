@@ -3,15 +3,12 @@
 mod answer;
 mod command;
 mod errors;
-mod handle;
 mod settings;
 
 pub use answer::Answer;
 pub use answer::answer_over;
 pub use command::Command;
 pub use command::Subject;
-pub use handle::Handled;
-pub use handle::handle_message;
 pub use settings::Settings;
 pub use settings::settings_allowed;
 pub use settings::settings_from;

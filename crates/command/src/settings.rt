@@ -3,8 +3,7 @@ ghost use mathlib.Core.Path.{_≡_};
 ghost use Prim.Native.Nat.{_<_};
 ghost use lib.ListN.{getD};
 ghost use Rattle.command.specs.Answer.{loadedFrom, settingsFrom};
-ghost use Rattle.command.specs.Effects.{workingValue, withWorking, Fits};
-ghost use Rattle.command.specs.Handle.{settingsAllowed};
+ghost use Rattle.command.specs.Effects.{workingValue, withWorking, Fits, settingsAllowed};
 use page::Setting;
 
 #[repr(C)]

@@ -5,7 +5,6 @@ use crate::text;
 use board::Board;
 use board::Fed;
 use board::Port;
-use command::Handled;
 use command::Settings;
 
 // The page has the first `length` of the bytes, so that it can be one of more than 64 bytes too.
@@ -21,13 +20,7 @@ pub struct Told {
     pub out: Output,
 }
 
-// What handling a message answers, and the bench after it.
-pub struct HandleStep {
-    pub handled: Handled,
-    pub bench: Bench,
-}
-
-// The same of a feed.
+// What a feed answers, and the bench after it.
 pub struct FeedStep {
     pub fed: Fed,
     pub bench: Bench,
@@ -94,19 +87,6 @@ impl Bench {
         }
     }
 
-    // Handles a message as if `room` ended after `n` bytes.
-    pub(crate) fn handle(self, message: &[u8], room: &mut [u8], n: usize) -> HandleStep {
-        let mut bytes = self.bytes;
-        let board = self.board;
-        let settings = board.settings;
-        let length = self.length;
-        let handled = handle_parts(message, settings, room, n, &mut bytes, length);
-        let after = handled.settings;
-        let changed = self.with_settings(after).board;
-        let bench = Bench::on(changed, bytes, length);
-        HandleStep { handled, bench }
-    }
-
     // Feeds a chunk to a port as if `room` ended after `n` bytes.
     pub(crate) fn feed(self, port: u8, chunk: &[u8], room: &mut [u8], n: usize) -> FeedStep {
         let mut bytes = self.bytes;
@@ -115,6 +95,16 @@ impl Bench {
         let fed = feed_parts(port, board, chunk, room, n, &mut bytes, length);
         let after = fed.board;
         let bench = Bench::on(after, bytes, length);
+        FeedStep { fed, bench }
+    }
+
+    // Feeds a message to port 0 as if the port held nothing. Both ports stay as they are: only the settings and the page go on.
+    pub(crate) fn feed_alone(self, message: &[u8], room: &mut [u8], n: usize) -> FeedStep {
+        let step = self.with_port(0, Port::new()).feed(0, message, room, n);
+        let fed = step.fed;
+        let after = step.bench;
+        let held = self.port(0);
+        let bench = after.with_port(0, held);
         FeedStep { fed, bench }
     }
 
@@ -133,19 +123,6 @@ impl Bench {
 }
 
 // The same over a page that ends after `k` bytes.
-fn handle_parts(
-    message: &[u8],
-    w: Settings,
-    room: &mut [u8],
-    n: usize,
-    page: &mut [u8],
-    k: usize,
-) -> Handled {
-    let r = within(n, room.len());
-    let p = within(k, page.len());
-    command::handle_message(message, w, &mut room[0..r], &mut page[0..p])
-}
-
 fn feed_parts(
     port: u8,
     board: Board,

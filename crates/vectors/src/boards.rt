@@ -1,4 +1,4 @@
-// The verbs on a board that handles one message at a time: board, handle, room.
+// The verbs on a board that is fed one message at a time, and nothing else: board, handle, room.
 use crate::bench;
 use crate::bench::Bench;
 use crate::bench::Told;
@@ -8,7 +8,8 @@ use crate::pages;
 use crate::text;
 use crate::text::MOST;
 use crate::text::Number;
-use command::Handled;
+use board::Fed;
+use board::Port;
 
 // A verb that is not here is for the next module.
 pub(crate) fn outcome(verb: &[u8], args: &[u8], bench: Bench, out: Output) -> Told {
@@ -44,11 +45,11 @@ fn handle(args: &[u8], bench: Bench, out: Output) -> Told {
     let Number::Value(n) = text::read_bytes(args, &mut message) else {
         return bench::bad_line(bench, out);
     };
-    let mut room = [0xEEu8; 16];
-    let step = bench.handle(text::prefix(&message, n), &mut room, 16);
-    let handled = step.handled;
+    let mut room = [0xEEu8; Port::REPLY];
+    let step = bench.feed_alone(text::prefix(&message, n), &mut room, Port::REPLY);
+    let fed = step.fed;
     let after = step.bench;
-    let told = say_handled(handled, text::prefix(&room, handled.length), out);
+    let told = say_handled(fed, &room, out);
     Told {
         bench: after,
         out: after.say_page(bench, told),
@@ -67,10 +68,10 @@ fn handle_within(args: &[u8], bench: Bench, out: Output) -> Told {
         return bench::bad_line(bench, out);
     }
     let mut room = [0xEEu8; MOST];
-    let step = bench.handle(text::prefix(&message, n), &mut room, length);
-    let handled = step.handled;
+    let step = bench.feed_alone(text::prefix(&message, n), &mut room, length);
+    let fed = step.fed;
     let after = step.bench;
-    let told = out.decimal(handled.number as u64)
+    let told = out.decimal(fed.number as u64)
         .text(b", ")
         .bytes(text::prefix(&room, length));
     Told {
@@ -79,12 +80,25 @@ fn handle_within(args: &[u8], bench: Bench, out: Output) -> Told {
     }
 }
 
-fn say_handled(handled: Handled, reply: &[u8], out: Output) -> Output {
-    let settings = handled.settings;
-    let told = out.decimal(handled.number as u64)
-        .text(b", error ")
-        .decimal(handled.error as u64);
-    bench::say_settings(settings, bench::say_saved(handled.saved, told))
+// Byte 3 of a reply is its payload's length, byte 7 the error. Where nothing is answered there is no reply.
+fn say_handled(fed: Fed, room: &[u8; 16], out: Output) -> Output {
+    let board = fed.board;
+    let settings = board.settings;
+    let told = out.decimal(fed.number as u64);
+    if fed.number != 0 {
+        return told;
+    }
+    let failed = say_error(room[7], told);
+    bench::say_settings(settings, bench::say_saved(fed.saved, failed))
         .text(b", reply ")
-        .bytes(reply)
+        .bytes(text::prefix(room, size_with(room[3])))
+}
+
+fn say_error(error: u8, out: Output) -> Output {
+    out.text(b", error ").decimal(error as u64)
+}
+
+// The size of a message with `l` payload bytes.
+fn size_with(l: u8) -> usize {
+    6 + l as usize
 }

@@ -1,50 +1,23 @@
--- `command::errors::field_error` meets its contract: each `return` is a test of the table.
-use Rattle.command.proofs.Tests.{error-empty, error-unknown, error-one, error-size, error-field, error-none}
+-- `command::errors::error_of` meets its contract: the tests of the type, then those of the field.
+use Rattle.command.proofs.Tests.{error-type, error-of-field}
 use borrow.Author.Needs.{needs}
-use Rattle.command.proofs.errors.field_error.Statement.{statement}
-use Rattle.command.proofs.errors.field_error.Tie as tie
+use Rattle.command.proofs.errors.error_of.Statement.{statement}
+use Rattle.command.proofs.errors.error_of.Tie as tie
+
+type-error-requires : tie.Need-type-error-requires
+type-error-requires c κs = search needs
 
 returns : tie.Need-returns
-returns c = search (error-empty, needs)
+returns c = search (error-type, needs)
 
-is-unknown-requires : tie.Need-is-unknown-requires
-is-unknown-requires c κs = search needs
+subject-of-requires : tie.Need-subject-of-requires
+subject-of-requires c κs = search needs
+
+field-error-requires : tie.Need-field-error-requires
+field-error-requires c κs = search needs
 
 returns-2 : tie.Need-returns-2
-returns-2 c = search (error-unknown, needs)
+returns-2 c = search (error-of-field, needs)
 
-returns-3 : tie.Need-returns-3
-returns-3 c = search (error-one, needs)
-
-sized-requires : tie.Need-sized-requires
-sized-requires c κs = search needs
-
-add-if4 : tie.Need-add-if4
-add-if4 c = search needs
-
-returns-4 : tie.Need-returns-4
-returns-4 c = search (error-size, needs)
-
-field-wrong-requires : tie.Need-field-wrong-requires
-field-wrong-requires c κs = search needs
-
-returns-5 : tie.Need-returns-5
-returns-5 c = search (error-field, needs)
-
-returns-6 : tie.Need-returns-6
-returns-6 c = search (error-none, needs)
-
-pub field-error-spec : {M : Type 1} → statement M
-field-error-spec =
-    tie.close
-    (tie.spec
-    returns
-    is-unknown-requires
-    returns-2
-    returns-3
-    sized-requires
-    add-if4
-    returns-4
-    field-wrong-requires
-    returns-5
-    returns-6)
+pub error-of-spec : {M : Type 1} → statement M
+error-of-spec = tie.close (tie.spec type-error-requires returns subject-of-requires field-error-requires returns-2)
