@@ -25,7 +25,7 @@ extern "C" {
 enum {
     KETPHIROJ_PORT_ROOM = 260,       /* the most bytes that a port holds */
     KETPHIROJ_LONGEST_MESSAGE = 261,
-    KETPHIROJ_REPLY_ROOM = 16,       /* the longest reply, and the least room for a feed */
+    KETPHIROJ_REPLY_ROOM = 166,      /* the longest reply, to a command of 16 fields, and the least room for a feed */
     KETPHIROJ_PAGE_SIZE = 64,
     KETPHIROJ_DATA_SIZE = 34         /* a data message of an acceleration and a rate */
 };
@@ -36,7 +36,7 @@ enum {
     KETPHIROJ_CHUNK_USED_UP = 1, /* nothing more to report */
     KETPHIROJ_BAD_PORT = 16,     /* not 0 or 1 */
     KETPHIROJ_BAD_BOARD = 17,    /* a port holds over 260 bytes, or a working value is not allowed */
-    KETPHIROJ_SHORT_ROOM = 18,   /* under 16 bytes for a feed, else shorter than what is to be written */
+    KETPHIROJ_SHORT_ROOM = 18,   /* under 166 bytes for a feed, else shorter than what is to be written */
     KETPHIROJ_PAGE_LENGTH = 19,  /* a page is not 64 bytes */
     KETPHIROJ_BAD_PAGE = 20,     /* a page is neither blank nor sound */
     KETPHIROJ_NOT_WHOLE = 21,    /* not one whole message */
@@ -45,7 +45,7 @@ enum {
     KETPHIROJ_BAD_FIELDS = 24,   /* the fields do not fill the payload exactly */
     KETPHIROJ_BAD_SIZE = 25,     /* a field 0x81 or 0x82 whose size is not 12 */
     KETPHIROJ_LONG_PAYLOAD = 26, /* over 255 bytes */
-    KETPHIROJ_NO_FIELD = 27,     /* no field of that number */
+    KETPHIROJ_NO_FIELD = 27,     /* no field of that number; no row of that number */
     KETPHIROJ_NO_COMMAND = 28    /* not a command that the board accepts */
 };
 
@@ -90,7 +90,7 @@ typedef struct {
     size_t held;    /* what the named port holds now */
     ketphiroj_settings settings; /* the working values now */
     uint8_t number;
-    bool saved;     /* whether a save was accepted: the page was written */
+    bool saved;     /* whether a save was accepted, of any field: the page was written */
 } ketphiroj_stepped;
 
 /*
@@ -98,8 +98,11 @@ typedef struct {
  * the held counts of ports 0 and 1. The caller puts the answer's held count and settings back into its board, as
  * ketphiroj_feed_board does.
  * Bytes that open no message are skipped without a reply; so are stray A5 in front of a message, any number of them.
+ * A command has 1 to 16 fields, which are handled in their order as separate commands would be; an error of one does not stop
+ * those after it. Where the fields do not fill the payload exactly, or are more than 16, nothing is done, and the error is 4.
  * 0: a message was answered. Its reply is at the front of `room`: 4 bytes, payload, 2 bytes, where byte 3 is the length of the
- *    payload; the rest of the room is left alone. Where `saved`, the page was written anew, else it is as it was.
+ *    payload; the rest of the room is left alone. The payload has a row for each field of the command, see
+ *    ketphiroj_read_reply. Where `saved`, the page was written anew, else it is as it was.
  * 1: the whole chunk was taken, and there is nothing more to report. Nothing was written to the room or the page.
  * 16, 17, 18, 19, 20: refused; an array that is not 260 bytes gives 17. Nothing was taken or written, and the held count and the
  *    settings are those given.
@@ -131,7 +134,7 @@ static inline ketphiroj_stepped ketphiroj_feed_board(
 /* What a writer answers. With any number but 0 the length is 0 and nothing was written. */
 typedef struct {
     uint8_t number;
-    size_t length; /* bytes written, from the room's front; the rest of the room is left alone */
+    size_t length; /* bytes written, from the room's front (ketphiroj_append_field: with those before); the rest is left alone */
 } ketphiroj_written;
 
 /* Is this one whole message with right sums? Numbers: 0; 21, 22. */
@@ -148,18 +151,28 @@ ketphiroj_written ketphiroj_write_message(
  */
 ketphiroj_written ketphiroj_write_command(uint8_t code, uint8_t function, uint32_t value, uint8_t *room, size_t room_length);
 
-/* A reply. With any number but 0 all else is 0 and false. */
+/*
+ * Writes one field of a command of type `kind` behind the first `length` bytes of the room, a payload that is being built. Type
+ * 0x01 has the code 0x02, type 0x02 the others; functions and values as with ketphiroj_write_command. The length answered is the
+ * payload's new one; only the field's own bytes are written. ketphiroj_write_message makes the message, with the same type; a
+ * board takes 1 to 16 fields. Numbers: 0; 28 (a board does not accept a message of this type with this field), 18 (also where
+ * `length` alone is over the room).
+ */
+ketphiroj_written ketphiroj_append_field(
+    uint8_t kind, uint8_t code, uint8_t function, uint32_t value, size_t length, uint8_t *room, size_t room_length);
+
+/* One row of a reply, which answers one field of a command. With any number but 0 all else is 0 and false. */
 typedef struct {
     uint8_t number;
     uint8_t kind; /* the type, as in the command */
-    uint8_t echo; /* the command's code */
+    uint8_t echo; /* the field's code; of a command whose fields were not reached its first payload byte, 0 if it had none */
     uint8_t error; /* 0 to 4 */
     bool has_value;
     uint32_t value; /* 0 where there is none */
 } ketphiroj_reply;
 
-/* Reads a reply that is one whole message. Numbers: 0; 21, 22, 23. */
-ketphiroj_reply ketphiroj_read_reply(const uint8_t *message, size_t message_length);
+/* Reads row `row`, counted from 0, of a reply that is one whole message of 1 to 16 rows. Numbers: 0; 21, 22, 23, 27. */
+ketphiroj_reply ketphiroj_read_reply(const uint8_t *message, size_t message_length, size_t row);
 
 /* ---- data messages: an axis goes in and out as the 32 bits of an IEEE 754 single float, NaN patterns too */
 

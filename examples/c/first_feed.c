@@ -1,6 +1,7 @@
 /*
- * A board on a blank page. On port 0 comes a stray A5, as when a cable is plugged in, and then a Ping in two parts; then port 1 is
- * told to use 921600 baud and asked for the rate, and the replies are read as the controller reads them.
+ * A board on a blank page. On port 0 comes a stray A5, as when a cable is plugged in, and then a Ping in two parts. Then port 1 is
+ * told to use 921600 baud and asked for the rate, and then given three settings in one command. The replies are read row by row,
+ * as the controller reads them.
  */
 #include "ketphiroj.h"
 
@@ -29,13 +30,37 @@ static void feed(uint8_t port, const uint8_t *chunk, size_t length) {
     printf("\n");
 }
 
-static void print_reply(void) {
-    ketphiroj_reply reply = ketphiroj_read_reply(room, reply_length());
-    printf("read: number %u, echo %02X, error %u", reply.number, reply.echo, reply.error);
-    if (reply.has_value) {
-        printf(", value %u", reply.value);
+/* A reply has a row for each field of the command; behind the last one the number is 27. */
+static void print_rows(void) {
+    ketphiroj_reply reply;
+    size_t row = 0;
+    while ((reply = ketphiroj_read_reply(room, reply_length(), row)).number == KETPHIROJ_DONE) {
+        printf("row %zu: echo %02X, error %u", row, reply.echo, reply.error);
+        if (reply.has_value) {
+            printf(", value %u", reply.value);
+        }
+        printf("\n");
+        row++;
     }
-    printf("\n");
+    printf("row %zu: number %u\n", row, reply.number);
+}
+
+/* Three settings in one command of type 02: the payload is built field by field. */
+static void use_three_settings(void) {
+    static const struct {
+        uint8_t code;
+        uint32_t value;
+    } settings[] = {{0x01, 460800}, {0x07, 3}, {0x08, 5}};
+    uint8_t payload[255], message[KETPHIROJ_LONGEST_MESSAGE];
+    size_t length = 0;
+    for (size_t i = 0; i < sizeof settings / sizeof settings[0]; i++) {
+        ketphiroj_written field = ketphiroj_append_field(
+            0x02, settings[i].code, 1, settings[i].value, length, payload, sizeof payload);
+        length = field.length;
+    }
+    ketphiroj_written use = ketphiroj_write_message(0x02, payload, length, message, sizeof message);
+    feed(1, message, use.length);
+    print_rows();
 }
 
 int main(void) {
@@ -50,15 +75,18 @@ int main(void) {
     feed(0, stray, sizeof stray);
     feed(0, message, 3);
     feed(0, message + 3, ping.length - 3);
-    print_reply();
+    print_rows();
 
     ketphiroj_written use = ketphiroj_write_command(0x01, 1, 921600, message, sizeof message);
     feed(1, message, use.length);
-    print_reply();
+    print_rows();
 
     ketphiroj_written ask = ketphiroj_write_command(0x01, 2, 0, message, sizeof message);
     feed(1, message, ask.length);
-    print_reply();
-    printf("board: %u baud\n", board.settings.baud);
+    print_rows();
+
+    use_three_settings();
+    ketphiroj_settings now = board.settings;
+    printf("board: %u baud, ranges %u and %u\n", now.baud, now.accelerometer, now.gyroscope);
     return 0;
 }

@@ -190,27 +190,51 @@ static void refused_pages(void) {
     agree(b.number == KETPHIROJ_PAGE_LENGTH && b.length == 0, "a body beside a factory page of 65 bytes");
 }
 
-/* Reads the reply of a type and a payload. */
-static ketphiroj_reply reply_of(uint8_t kind, const uint8_t *payload, size_t length) {
+/* Reads a row of the reply of a type and a payload. */
+static ketphiroj_reply reply_of(uint8_t kind, const uint8_t *payload, size_t length, size_t row) {
     ketphiroj_written m = ketphiroj_write_message(kind, payload, length, room, sizeof room);
-    return ketphiroj_read_reply(room, m.length);
+    return ketphiroj_read_reply(room, m.length, row);
 }
 
-/* A reply with a value, one without, and refused ones, of which every field but the number is 0. */
+/* Whether a row was refused with this number: every other field is then 0. */
+static bool row_refused(ketphiroj_reply r, uint8_t number) {
+    return r.number == number && r.kind == 0 && r.echo == 0 && r.error == 0 && !r.has_value && r.value == 0;
+}
+
+/* Rows with a value and without one, and refused ones. */
 static void replies_pass(void) {
-    static const uint8_t with[] = {0x80, 0x02, 0x01, 0x00, 0x01, 0x04, 0x00, 0x0E, 0x10, 0x00};
+    static const uint8_t two[] = {0x80, 0x02, 0x01, 0x00, 0x01, 0x04, 0x00, 0x0E, 0x10, 0x00, 0x80, 0x02, 0x63, 0x03};
     static const uint8_t without[] = {0x80, 0x02, 0x63, 0x04};
-    ketphiroj_reply r = reply_of(0x02, with, sizeof with);
+    ketphiroj_reply r = reply_of(0x02, two, 10, 0);
     agree(r.number == KETPHIROJ_DONE && r.kind == 0x02 && r.echo == 0x01 && r.error == 0, "a reply with a value");
     agree(r.has_value && r.value == 921600, "its value");
-    r = reply_of(0xA5, without, sizeof without);
+    r = reply_of(0x02, two, sizeof two, 1);
+    agree(r.number == KETPHIROJ_DONE && r.kind == 0x02 && r.echo == 0x63 && r.error == 3, "a second row");
+    agree(row_refused(reply_of(0x02, two, sizeof two, 2), KETPHIROJ_NO_FIELD), "no third row");
+    agree(row_refused(reply_of(0x02, two, sizeof two, SIZE_MAX), KETPHIROJ_NO_FIELD), "no last row");
+    r = reply_of(0xA5, without, sizeof without, 0);
     agree(r.number == KETPHIROJ_DONE && r.kind == 0xA5 && r.echo == 0x63 && r.error == 4, "a reply without a value");
     agree(!r.has_value && r.value == 0, "no value");
-    r = reply_of(0x01, with, sizeof with);
-    agree(r.number == KETPHIROJ_BAD_TYPE && r.kind == 0 && r.echo == 0 && r.error == 0, "not a reply");
-    agree(!r.has_value && r.value == 0, "the value of what is not a reply");
-    r = ketphiroj_read_reply(room, 5);
-    agree(r.number == KETPHIROJ_NOT_WHOLE && r.kind == 0 && r.echo == 0 && r.error == 0 && !r.has_value, "a part of a reply");
+    agree(row_refused(reply_of(0x01, two, sizeof two, 0), KETPHIROJ_BAD_TYPE), "not a reply");
+    agree(row_refused(ketphiroj_read_reply(room, 5, 0), KETPHIROJ_NOT_WHOLE), "a part of a reply");
+}
+
+/* Fields written one behind the other, each argument in its place; a refused one leaves the room alone. */
+static void fields_are_appended(void) {
+    static const uint8_t expected[] = {0x01, 0x05, 0x01, 0x00, 0x0E, 0x10, 0x00, 0x08, 0x01, 0x03, 0x77};
+    uint8_t payload[sizeof expected];
+    memset(payload, 0x77, sizeof payload);
+    ketphiroj_written w = ketphiroj_append_field(0x02, 0x01, 1, 921600, 0, payload, sizeof payload);
+    agree(w.number == KETPHIROJ_DONE && w.length == 7, "a field with a value");
+    w = ketphiroj_append_field(0x02, 0x08, 3, 99, 7, payload, 10);
+    agree(w.number == KETPHIROJ_DONE && w.length == 10, "a field without a value, behind it");
+    w = ketphiroj_append_field(0x02, 0x08, 1, 7, 8, payload, sizeof payload);
+    agree(w.number == KETPHIROJ_SHORT_ROOM && w.length == 0, "a field without room");
+    w = ketphiroj_append_field(0x01, 0x02, 0, 0, SIZE_MAX, payload, sizeof payload);
+    agree(w.number == KETPHIROJ_SHORT_ROOM && w.length == 0, "a length over the room");
+    w = ketphiroj_append_field(0x01, 0x08, 3, 0, SIZE_MAX, payload, sizeof payload);
+    agree(w.number == KETPHIROJ_NO_COMMAND && w.length == 0, "a code of another type");
+    agree(memcmp(payload, expected, sizeof expected) == 0, "the payload");
 }
 
 /* Six patterns in, six out; one of them a NaN with a payload. */
@@ -279,6 +303,7 @@ int main(void) {
     bodies_pass();
     refused_pages();
     replies_pass();
+    fields_are_appended();
     patterns_pass();
     settings_come_back();
     arrays_are_measured();

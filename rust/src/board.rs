@@ -71,7 +71,7 @@ pub enum Outcome {
         taken: usize,
         /// Bytes that the scan skipped.
         skipped: usize,
-        /// Whether a save was accepted; the page has then been written.
+        /// Whether a save was accepted, of any field; the page has then been written.
         saved: bool,
         /// The length of the reply at the front of the room.
         reply: usize,
@@ -102,8 +102,8 @@ impl Outcome {
 }
 
 impl Board {
-    /// The longest reply, and the least room of a feed.
-    pub const REPLY: usize = 16;
+    /// The longest reply, to a command of 16 fields, and the least room of a feed.
+    pub const REPLY: usize = 166;
 
     /// Starts a board on the values that the page keeps, or the factory's where it keeps none.
     ///
@@ -127,6 +127,10 @@ impl Board {
     /// Feeds a chunk to port 0 or 1: takes bytes up to the end of the first message, handles it and writes its reply to
     /// the room's front, or takes the whole chunk where there is none. A save writes the page. Bytes that open no
     /// message are skipped without a reply; so are stray A5 in front of one.
+    ///
+    /// A command has 1 to 16 fields, which are handled in their order as separate commands would be; the reply has a
+    /// row for each. Where the fields do not fill the payload, or are more than 16, nothing is done, and the reply has
+    /// one row with error 4.
     ///
     /// Refuses with [`Refusal::Port`], [`Refusal::Unsound`], [`Refusal::Room`], [`Refusal::PageLength`] and
     /// [`Refusal::Page`], the first that applies; the board is then as it was.

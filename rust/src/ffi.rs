@@ -50,11 +50,11 @@ pub struct Written {
     pub length: usize,
 }
 
-/// What the reply reader answers; zeros where it refuses.
+/// What the reply reader answers of one row; zeros where it refuses.
 #[derive(Clone, Copy, Debug, PartialEq, Eq)]
 #[repr(C)]
 pub struct FlatReply {
-    /// 0, or 21 to 23.
+    /// 0, 21 to 23, or 27.
     pub number: u8,
     /// The type.
     pub kind: u8,
@@ -139,7 +139,16 @@ extern "C" {
         room_length: usize,
     ) -> Written;
     fn ketphiroj_write_command(code: u8, function: u8, value: u32, room: *mut u8, room_length: usize) -> Written;
-    fn ketphiroj_read_reply(message: *const u8, message_length: usize) -> FlatReply;
+    fn ketphiroj_append_field(
+        kind: u8,
+        code: u8,
+        function: u8,
+        value: u32,
+        length: usize,
+        room: *mut u8,
+        room_length: usize,
+    ) -> Written;
+    fn ketphiroj_read_reply(message: *const u8, message_length: usize, row: usize) -> FlatReply;
     fn ketphiroj_read_field(message: *const u8, message_length: usize, k: usize) -> FlatField;
     fn ketphiroj_copy_field(
         message: *const u8,
@@ -227,10 +236,18 @@ pub fn write_command(code: u8, function: u8, value: u32, room: &mut [u8]) -> Wri
     unsafe { ketphiroj_write_command(code, function, value, room.as_mut_ptr(), room.len()) }
 }
 
-/// Reads a reply: 21 to 23.
-pub fn read_reply(message: &[u8]) -> FlatReply {
+/// Writes one field of a command of a type behind the first `length` bytes of the room: 28, 18. The length answered is
+/// the payload's new one.
+pub fn append_field(kind: u8, code: u8, function: u8, value: u32, length: usize, room: &mut [u8]) -> Written {
+    // SAFETY: `room` is valid for reads and writes of its length during the call. `length` is a number, which the
+    // library compares with the room's.
+    unsafe { ketphiroj_append_field(kind, code, function, value, length, room.as_mut_ptr(), room.len()) }
+}
+
+/// Reads row `row` of a reply: 21 to 23, 27.
+pub fn read_reply(message: &[u8], row: usize) -> FlatReply {
     // SAFETY: `message` is valid for reads of its length during the call.
-    unsafe { ketphiroj_read_reply(message.as_ptr(), message.len()) }
+    unsafe { ketphiroj_read_reply(message.as_ptr(), message.len(), row) }
 }
 
 /// Reads field `k` of a data message: 21 to 25, 27.

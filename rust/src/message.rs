@@ -1,4 +1,4 @@
-//! One whole message, and the command writer.
+//! One whole message, and the writers of commands.
 
 use crate::ffi;
 use crate::refusal::{done_or_refused, Refusal};
@@ -86,4 +86,39 @@ pub fn write_message(kind: u8, payload: &[u8], room: &mut [u8]) -> Result<usize,
 /// ```
 pub fn write_command(code: u8, function: u8, value: u32, room: &mut [u8]) -> Result<usize, Refusal> {
     length_of(ffi::write_command(code, function, value, room))
+}
+
+/// Writes one field of a command of this type behind the first `length` bytes of the room, a payload that is being
+/// built, and gives the payload's new length: function 1 with the value, the functions 2 to 5 without, Ping without
+/// both. What is not written is not looked at. Type 01 has Ping, type 02 the settings. [`write_message`] makes a
+/// message of the payload, with the same type; a board takes up to 16 fields.
+///
+/// Refuses with [`Refusal::Command`] where a board would not accept a message of this type with this field, then with
+/// [`Refusal::Room`].
+///
+/// ```
+/// use ketphiroj::{append_field, code, function, write_message, Refusal};
+///
+/// let mut payload = [0; 255];
+/// let mut length = 0;
+/// for (code, value) in [(code::BAUD, 921600), (code::ACCELEROMETER, 4), (code::GYROSCOPE, 7)] {
+///     length = append_field(0x02, code, function::USE, value, length, &mut payload)?;
+/// }
+/// assert_eq!(payload[..length], [1, 5, 1, 0x00, 0x0E, 0x10, 0x00, 7, 2, 1, 4, 8, 2, 1, 7]);
+/// let mut room = [0; 32];
+/// assert_eq!(write_message(0x02, &payload[..length], &mut room), Ok(21));
+///
+/// assert_eq!(append_field(0x02, code::GYROSCOPE, function::USE, 8, 0, &mut []), Err(Refusal::Command));
+/// assert_eq!(append_field(0x02, code::GYROSCOPE, function::USE, 7, 0, &mut []), Err(Refusal::Room));
+/// # Ok::<(), Refusal>(())
+/// ```
+pub fn append_field(
+    kind: u8,
+    code: u8,
+    function: u8,
+    value: u32,
+    length: usize,
+    room: &mut [u8],
+) -> Result<usize, Refusal> {
+    length_of(ffi::append_field(kind, code, function, value, length, room))
 }

@@ -20,7 +20,7 @@ pub enum Refusal {
     Port = 16,
     /// The board is unsound: a port holds over 260, or a working value is not allowed.
     Unsound = 17,
-    /// The room is too small: under 16 bytes for a feed, otherwise shorter than what is to be written.
+    /// The room is too small: under 166 bytes for a feed, otherwise shorter than what is to be written.
     Room = 18,
     /// The page is not 64 bytes.
     PageLength = 19,
@@ -38,7 +38,7 @@ pub enum Refusal {
     FieldSize = 25,
     /// The payload is over 255 bytes.
     Payload = 26,
-    /// There is no field of that number, counted from 0.
+    /// Data reader: no field of that number, counted from 0. Reply reader: no row of that number.
     NoField = 27,
     /// The command to be written is not one that the board accepts.
     Command = 28,
@@ -93,7 +93,7 @@ impl Refusal {
             Refusal::Fields => "fields do not fill the payload exactly",
             Refusal::FieldSize => "field 81 or 82 whose size is not 12",
             Refusal::Payload => "payload over 255",
-            Refusal::NoField => "no field of that number",
+            Refusal::NoField => "no field or row of that number",
             Refusal::Command => "not a command that the board accepts",
         }
     }

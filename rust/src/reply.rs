@@ -3,12 +3,13 @@
 use crate::ffi;
 use crate::refusal::{done_or_refused, Refusal};
 
-/// What a reply says.
+/// What one row of a reply says, which is the answer to one field of a command.
 #[derive(Clone, Copy, Debug, PartialEq, Eq)]
 pub struct Reply {
     /// The type, which is that of the command.
     pub kind: u8,
-    /// The first payload byte of the command, or 0 if it had none.
+    /// The field's code; in the one row of a command whose fields were not reached, its first payload byte, or 0 if it
+    /// had none.
     pub echo: u8,
     /// 0 done, 1 sums wrong, 2 unknown type, 3 unknown code, 4 not allowed.
     pub error: u8,
@@ -16,21 +17,39 @@ pub struct Reply {
     pub value: Option<u32>,
 }
 
-/// Reads a reply that is one whole message.
+/// Reads row `row`, counted from 0, of a reply that is one whole message of 1 to 16 rows.
 ///
-/// Refuses with [`Refusal::NotWhole`], [`Refusal::Sums`] and [`Refusal::Kind`].
+/// Refuses with [`Refusal::NotWhole`], [`Refusal::Sums`], [`Refusal::Kind`] and [`Refusal::NoField`].
 ///
 /// ```
 /// use ketphiroj::{code, read_reply, Refusal, Reply};
 ///
 /// let message = [0xA5, 0xA5, 0x02, 0x07, 0x80, 0x02, 0x08, 0x00, 0x08, 0x01, 0x03, 0xE9, 0xA4];
-/// let reply = read_reply(&message)?;
+/// let reply = read_reply(&message, 0)?;
 /// assert_eq!(reply, Reply { kind: 0x02, echo: code::GYROSCOPE, error: 0, value: Some(3) });
+/// assert_eq!(read_reply(&message, 1), Err(Refusal::NoField));
 /// # Ok::<(), Refusal>(())
 /// ```
-pub fn read_reply(message: &[u8]) -> Result<Reply, Refusal> {
-    let flat = ffi::read_reply(message);
+pub fn read_reply(message: &[u8], row: usize) -> Result<Reply, Refusal> {
+    let flat = ffi::read_reply(message, row);
     done_or_refused(flat.number)?;
     let value = flat.has_value.then_some(flat.value);
     Ok(Reply { kind: flat.kind, echo: flat.echo, error: flat.error, value })
+}
+
+/// The rows of a reply in their order, at least one. Refuses as [`read_reply`] does for row 0.
+///
+/// ```
+/// use ketphiroj::{read_rows, write_message, Refusal};
+///
+/// // To a Ping, an unknown code and another Ping.
+/// let mut room = [0; 32];
+/// let length = write_message(0x01, &[0x80, 2, 2, 0, 0x80, 2, 9, 3, 0x80, 2, 2, 0], &mut room)?;
+/// let errors: Vec<u8> = read_rows(&room[..length])?.map(|row| row.error).collect();
+/// assert_eq!(errors, [0, 3, 0]);
+/// # Ok::<(), Refusal>(())
+/// ```
+pub fn read_rows(message: &[u8]) -> Result<impl Iterator<Item = Reply> + '_, Refusal> {
+    read_reply(message, 0)?;
+    Ok((0..).map_while(|row| read_reply(message, row).ok()))
 }

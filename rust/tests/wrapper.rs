@@ -1,8 +1,9 @@
 //! The paper's sample lines through the wrapper, and every refusal.
 
 use ketphiroj::{
-    check_message, check_page, code, copy_body, factory_page, field_data, function, read_field, read_reply,
-    write_command, write_data, write_message, Board, Outcome, Refusal, Values, PAGE,
+    append_field, check_message, check_page, code, copy_body, factory_page, field_data, function, read_field,
+    read_reply, read_rows, write_command, write_data, write_message, Board, Outcome, Refusal, Reply, Settings, Values,
+    PAGE,
 };
 
 const BLANK: [u8; PAGE] = [0xFF; PAGE];
@@ -58,10 +59,10 @@ fn sample_lines() {
 #[test]
 fn damaged_ping() {
     let (mut board, mut page) = fresh();
-    let mut room = [0x77; 16];
+    let mut room = [0x77; Board::REPLY];
     let outcome = board.feed(0, &hex("A5A5010202004F24"), &mut room, &mut page);
     assert_eq!(outcome, Ok(Outcome::Reported { taken: 8, skipped: 1, saved: false, reply: 10 }));
-    assert_eq!(room[10..], [0x77; 6]);
+    assert_eq!(room[10..], [0x77; Board::REPLY - 10]);
     assert_eq!(board.first.held, 7);
     assert_eq!(board.feed(0, &[], &mut room, &mut page), Ok(Outcome::UsedUp { taken: 0, skipped: 7 }));
     assert_eq!(board, fresh().0);
@@ -73,7 +74,7 @@ fn stray_bytes() {
     let ping = hex("A5A5010202004F25");
     for run in 1..=300 {
         let (mut board, mut page) = fresh();
-        let mut room = [0; 16];
+        let mut room = [0; Board::REPLY];
         let outcome = board.feed(0, &[vec![0xA5; run], ping.clone()].concat(), &mut room, &mut page);
         assert_eq!(outcome, Ok(Outcome::Reported { taken: run + 8, skipped: run, saved: false, reply: 10 }));
         assert_eq!(room[..10], hex("A5A5010480020200D3CF"));
@@ -100,7 +101,7 @@ fn type_a5() {
 #[test]
 fn saves() {
     let (mut board, mut page) = fresh();
-    let mut room = [0; 16];
+    let mut room = [0; Board::REPLY];
     let saved = board.feed(0, &hex("A5A50203010103 547F"), &mut room, &mut page);
     assert_eq!(saved, Ok(Outcome::Reported { taken: 9, skipped: 0, saved: true, reply: 10 }));
     assert_eq!(page[..8], hex("01 010404 0001C200"));
@@ -117,6 +118,83 @@ fn saves() {
     assert_eq!(Values::read(&page), Ok(Values { baud: Some(115200), accelerometer: Some(2), gyroscope: Some(3) }));
 }
 
+/// The command of these settings, each with one function.
+fn command(function: u8, settings: &[(u8, u32)]) -> Vec<u8> {
+    let (mut payload, mut length) = ([0; 255], 0);
+    for &(code, value) in settings {
+        length = append_field(0x02, code, function, value, length, &mut payload).unwrap();
+    }
+    let mut message = [0; 261];
+    let length = write_message(0x02, &payload[..length], &mut message).unwrap();
+    message[..length].to_vec()
+}
+
+/// Three settings set in one command, saved in another, and loaded after a restart.
+#[test]
+fn three_settings() {
+    let three = [(code::BAUD, 921600), (code::ACCELEROMETER, 4), (code::GYROSCOPE, 7)];
+    let settings = Settings { baud: 921600, accelerometer: 4, gyroscope: 7 };
+    let (mut board, mut page) = fresh();
+    let set = command(function::USE, &three);
+    assert_eq!(set, hex("A5A5020F 010501000E1000 07020104 08020107 A016"));
+    let done = hex("A5A5020C 80020100 80020700 80020800 EE21");
+    assert_eq!(replies(&mut board, &set, &mut page), std::slice::from_ref(&done));
+    assert_eq!((board.settings, page), (settings, BLANK));
+
+    let save = command(function::SAVE, &three);
+    let mut room = [0; Board::REPLY];
+    let saved = board.feed(0, &save, &mut room, &mut page);
+    assert_eq!(saved, Ok(Outcome::Reported { taken: 15, skipped: 0, saved: true, reply: 18 }));
+    assert_eq!(room[..18], done);
+    assert_eq!(page[..16], hex("03 010A04 070E01 080F01 000E1000 04 07"));
+
+    // Starting takes them from the page, and so does a load after others were set.
+    let mut board = Board::start(&page).unwrap();
+    assert_eq!(board.settings, settings);
+    let others = command(function::USE, &[(code::GYROSCOPE, 1), (code::BAUD, 9600), (code::ACCELEROMETER, 1)]);
+    replies(&mut board, &others, &mut page);
+    assert_eq!(board.settings, Settings { baud: 9600, accelerometer: 1, gyroscope: 1 });
+    assert_eq!(replies(&mut board, &command(function::LOAD, &three), &mut page), [done]);
+    assert_eq!(board.settings, settings);
+
+    let reported = &replies(&mut board, &command(function::REPORT, &three), &mut page)[0];
+    let rows: Vec<Reply> = read_rows(reported).unwrap().collect();
+    let row = |(echo, value)| Reply { kind: 0x02, echo, error: 0, value: Some(value) };
+    assert_eq!(rows, three.map(row));
+    assert_eq!(read_reply(reported, 2), Ok(rows[2]));
+    assert_eq!(read_reply(reported, 3), Err(Refusal::NoField));
+}
+
+/// An error does not stop the fields after it, but 17 fields, or a payload that they do not fill, are refused whole.
+#[test]
+fn errors_among_fields() {
+    let reply = |kind, payload: &str| {
+        let (mut board, mut page) = fresh();
+        let mut message = [0; 261];
+        let length = write_message(kind, &hex(payload), &mut message).unwrap();
+        let replies = replies(&mut board, &message[..length], &mut page);
+        let rows: Vec<(u8, u8)> = read_rows(&replies[0]).unwrap().map(|row| (row.echo, row.error)).collect();
+        (rows, board.settings.gyroscope, page != BLANK)
+    };
+    assert_eq!(reply(0x02, "08020108 6300 08020107 080103"), (vec![(8, 4), (0x63, 3), (8, 0), (8, 0)], 7, true));
+    assert_eq!(reply(0x02, "08020107 080103 08"), (vec![(8, 4)], 3, false));
+    assert_eq!(reply(0x02, "63"), (vec![(0x63, 4)], 3, false));
+    assert_eq!(reply(0x01, &"0200".repeat(16)), (vec![(2, 0); 16], 3, false));
+    assert_eq!(reply(0x01, &"0200".repeat(17)), (vec![(2, 4)], 3, false));
+    assert_eq!(reply(0x01, ""), (vec![(0, 3)], 3, false));
+}
+
+/// Sixteen reports of the baud rate fill the room.
+#[test]
+fn longest_reply() {
+    let (mut board, mut page) = fresh();
+    let reports = command(function::REPORT, &[(code::BAUD, 0); 16]);
+    let reply = &replies(&mut board, &reports, &mut page)[0];
+    assert_eq!(reply.len(), Board::REPLY);
+    assert!(read_rows(reply).unwrap().all(|row| row.value == Some(115200)));
+    assert_eq!(read_rows(reply).unwrap().count(), 16);
+}
+
 /// A refused feed leaves board, room and page as they were.
 #[test]
 fn refused_feeds() {
@@ -126,13 +204,14 @@ fn refused_feeds() {
     let mut not_allowed = sound;
     not_allowed.settings.gyroscope = 8;
     let cases = [
-        (2, unsound, 15, 63, Refusal::Port),
-        (0, unsound, 15, 63, Refusal::Unsound),
-        (1, not_allowed, 15, 63, Refusal::Unsound),
-        (0, sound, 15, 63, Refusal::Room),
-        (0, sound, 16, 63, Refusal::PageLength),
-        (0, sound, 16, 65, Refusal::PageLength),
-        (0, sound, 16, 64, Refusal::Page),
+        (2, unsound, 165, 63, Refusal::Port),
+        (0, unsound, 165, 63, Refusal::Unsound),
+        (1, not_allowed, 165, 63, Refusal::Unsound),
+        (0, sound, 16, 63, Refusal::Room),
+        (0, sound, 165, 63, Refusal::Room),
+        (0, sound, 166, 63, Refusal::PageLength),
+        (0, sound, 166, 65, Refusal::PageLength),
+        (0, sound, 166, 64, Refusal::Page),
     ];
     for (port, given, room, page, refusal) in cases {
         let mut board = given;
@@ -150,11 +229,16 @@ fn refusals_of_the_other_calls() {
     assert_eq!(check_page(&[0; 64]), Err(Refusal::Page));
     assert_eq!(check_message(&hex("A5A5010202004F")), Err(Refusal::NotWhole));
     assert_eq!(check_message(&hex("A5A5010202004F24")), Err(Refusal::Sums));
-    assert_eq!(read_reply(&hex("A5A5010202004F25")), Err(Refusal::Kind));
+    assert_eq!(read_reply(&hex("A5A5010202004F25"), 0), Err(Refusal::Kind));
+    assert_eq!(read_reply(&hex("A5A5010480020200D3CF"), 1), Err(Refusal::NoField));
+    assert_eq!(read_rows(&hex("A5A5010202004F25")).err(), Some(Refusal::Kind));
     assert_eq!(read_field(&hex("A5A5010202004F25"), 0), Err(Refusal::Kind));
     assert_eq!(write_message(0xA2, &[0; 256], &mut room), Err(Refusal::Payload));
     assert_eq!(write_command(code::PING, 0, 0, &mut room[..7]), Err(Refusal::Room));
     assert_eq!(write_command(code::BAUD, function::USE, 57600, &mut room), Err(Refusal::Command));
+    assert_eq!(append_field(0x01, code::BAUD, function::REPORT, 0, 0, &mut room), Err(Refusal::Command));
+    assert_eq!(append_field(0x02, code::BAUD, function::REPORT, 0, 298, &mut room), Err(Refusal::Room));
+    assert_eq!(append_field(0x02, code::BAUD, function::REPORT, 0, usize::MAX, &mut room), Err(Refusal::Room));
     assert_eq!(write_data([0.0; 3], [0.0; 3], &mut room[..33]), Err(Refusal::Room));
     let data = |payload: &[u8]| {
         let mut room = [0; 300];

@@ -19,8 +19,8 @@ use Rattle.message.specs.Theorems.{RoundTrip}
 use Rattle.message.proofs.RoundTrips.{written-is-read}
 use Rattle.page.specs.Sound.{pageNumber}
 use Rattle.command.specs.declared.settings.Settings.{Settings}
-use Rattle.command.specs.Command.{commandOf}
-use Rattle.command.specs.Answer.{answering}
+use Rattle.command.specs.Outcome.{receivedOf}
+use Rattle.command.specs.Answer.{replyRoom, answering}
 use Rattle.board.specs.declared.board.Board.{Board}
 use Rattle.board.specs.Port.{heldBytes, portOf}
 use Rattle.board.specs.Feed.{PortStep, unsound, feedNumber, stepOn, stepOf, feedOn, feedOf}
@@ -28,7 +28,7 @@ use Rattle.board.specs.Alone.{Ready, answeredStep, FedAlone}
 
 accepted : (port : ℕ) (b : Board) (room page : List ℕ) → Ready port b room page → feedNumber port (b .first .held) (b .second .held) (b .settings) room page ≡ 0
 unfolding feedNumber
-accepted port b room page r = rw (le-ltb 1 port (r .right-port), sound (unsound (b .first .held) (b .second .held) (b .settings)) (r .sound-board), le-ltb (length room) 16 (r .large-room)) (r .right-page)
+accepted port b room page r = rw (le-ltb 1 port (r .right-port), sound (unsound (b .first .held) (b .second .held) (b .settings)) (r .sound-board), le-ltb (length room) replyRoom (r .large-room)) (r .right-page)
   where
     sound : (u : Bool) → not u ≡ true → u ≡ false
     sound false e = refl
@@ -40,8 +40,8 @@ unfolding seek
 found-front [] n e h = absurd (omega arith)
 found-front (x ∷ xs) n e h = rw e
 
-alone : (m : List ℕ) (n : ℕ) → length m ≡ n → (w : Settings) (room page : List ℕ) → stepOn (Found 0 n true) [] w m room page ≡ answeredStep m (answering (commandOf true m) w room page)
-alone m n ns w room page =
+alone : (port : ℕ) (m : List ℕ) (n : ℕ) → length m ≡ n → (w : Settings) (room page : List ℕ) → stepOn port (Found 0 n true) [] w m room page ≡ answeredStep m (answering port (receivedOf true m) w room page)
+alone port m n ns w room page =
     let taken : 0 + n - 0 ≡ length m = omega arith in
     let past : 0 + n ≡ length m = omega arith in
     rw (taken, past, take-all (length m) m (omega arith), drop-of-length-le m {i = length m} (omega arith))
@@ -53,4 +53,4 @@ fed-alone port b room page kind payload r o l =
     let t : RoundTrip kind payload = written-is-read kind payload l in
     let f : seek front m ≡ Found 0 (length payload + 6) true =
     found-front m (length payload + 6) (ap front (sym (append-nil m)) ∙ t .good o []) (rw (t .size) (omega arith)) in
-    rw (accepted port b room page r, r .nothing-held, f) (ap (λ (s : PortStep). feedOn s port b) (alone m (length payload + 6) (t .size) (b .settings) room page))
+    rw (accepted port b room page r, r .nothing-held, f) (ap (λ (s : PortStep). feedOn s port b) (alone port m (length payload + 6) (t .size) (b .settings) room page))

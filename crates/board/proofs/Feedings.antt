@@ -1,7 +1,7 @@
 -- Demand 1: any feed of any board, and lists of feeds from any sound board.
 use mathlib.Core.Bool.{Bool, true, false, _||_, not}
 use mathlib.Core.List.{List, [], _∷_, _++_}
-use mathlib.Core.Option.{Option, none, some}
+use mathlib.Core.Option.{none, some}
 use mathlib.Core.Path.{_≡_, refl, sym, ap, subst, _∙_}
 use Prim.Native.Nat.{ℕ, zero, suc, _+_, _-_, _≤_, _<_}
 use native.Mathlib.Omega.{arith}
@@ -20,18 +20,19 @@ use Rattle.message.specs.Front.{front, mostUndecided}
 use Rattle.message.specs.Whole.{wholeNumber, refuse}
 use Rattle.message.proofs.Framed.{cutting-harmless}
 use Rattle.message.proofs.RoundTrips.{written-is-read}
-use Rattle.page.specs.declared.setting.Setting.{Setting}
 use Rattle.page.specs.Page.{pageSize}
-use Rattle.page.specs.Sound.{sound, pageNumber, savedPage}
+use Rattle.page.specs.Sound.{sound, pageNumber}
 use Rattle.page.proofs.Pages.{sound-passes}
 use Rattle.command.specs.declared.settings.Settings.{Settings}
-use Rattle.command.specs.declared.command.Command.{Command}
-use Rattle.command.specs.Command.{commandOf}
-use Rattle.command.specs.Errors.{errorOf}
-use Rattle.command.specs.Effects.{workingValue, effectOf, replyPayload, replyOf, settingsAllowed}
-use Rattle.command.specs.Answer.{loadedFrom, isSave, pageAfter, settingsFrom, answering, replyRoom}
-use Rattle.command.proofs.Keeps.{factory-allowed, effect-row, reply-fits}
-use Rattle.command.proofs.Pages.{loaded-stored, page-changes, reply-whole, answer-keeps}
+use Rattle.command.specs.Outcome.{Received, receivedOf, messageOutcome}
+use Rattle.command.specs.Answer.{pageAccess, settingsFrom, replyRoom, answering}
+use Rattle.command.specs.Effects.{settingsAllowed}
+use Rattle.command.specs.Theorems.{Saved, savesOn, replyTo}
+use Rattle.command.proofs.Keeps.{factory-allowed}
+use Rattle.command.proofs.Pages.{loaded-stored, reply-whole, answer-keeps}
+use Rattle.command.proofs.Separate.{longest-reply}
+use Rattle.message.proofs.Writes.{message-length}
+use Rattle.board.specs.Handling.{Kept}
 use Rattle.page.specs.declared.setting.Setting.the-variants.{Baud, Accelerometer, Gyroscope}
 use Rattle.board.specs.declared.board.Board.{Board}
 use Rattle.board.specs.declared.board.Started.{Started}
@@ -73,13 +74,13 @@ joined first second w p = rw (le-ltb portRoom first (p .first-few), le-ltb portR
 
 -- ---- a step
 
-module _ (held : List ℕ) (w : Settings) (chunk room page : List ℕ) where
+module _ (port : ℕ) (held : List ℕ) (w : Settings) (chunk room page : List ℕ) where
   -- What stays held fits the port.
-  step-few : length held ≤ portRoom → length (stepOf held w chunk room page .held) ≤ portRoom
+  step-few : length held ≤ portRoom → length (stepOf port held w chunk room page .held) ≤ portRoom
   unfolding stepOf
   step-few few = go (seek front (held ++ chunk)) refl
     where
-      go : (q : Sought) → seek front (held ++ chunk) ≡ q → length (stepOn q held w chunk room page .held) ≤ portRoom
+      go : (q : Sought) → seek front (held ++ chunk) ≡ q → length (stepOn port q held w chunk room page .held) ≤ portRoom
       go (Starved k) e =
           let s : StarvedAt front mostUndecided (held ++ chunk) k = subst (Agrees front mostUndecided (held ++ chunk)) e (cutting-harmless .agrees (held ++ chunk)) in
           s .few
@@ -90,18 +91,19 @@ module _ (held : List ℕ) (w : Settings) (chunk room page : List ℕ) where
           omega (arith, few, r, s .most, s .inside, length-drop (resume k n good) visible, length-append held (take (k + n - length held) chunk), length-take (k + n - length held) chunk)
 
   -- An accepted step answers 0 or 1.
-  step-number : stepOf held w chunk room page .number ≤ 1
+  step-number : stepOf port held w chunk room page .number ≤ 1
   unfolding stepOf
   step-number = go (seek front (held ++ chunk))
     where
-      go : (q : Sought) → stepOn q held w chunk room page .number ≤ 1
+      go : (q : Sought) → stepOn port q held w chunk room page .number ≤ 1
       go (Starved k) = omega arith
       go (Found k n good) = omega arith
 
   -- What it does to the settings and the page.
   record StepSaved (after : List ℕ) : Type 0 where
-    setting : Setting
-    written : after ≡ savedPage page setting (workingValue w setting)
+    saves : List Saved
+    some-saves : 1 ≤ length saves
+    written : after ≡ savesOn page saves
 
   record StepKeeps (s : PortStep) : Type 0 where
     settings-allowed : settingsAllowed (s .settings) ≡ true
@@ -109,24 +111,20 @@ module _ (held : List ℕ) (w : Settings) (chunk room page : List ℕ) where
     unsaved : s .saved ≡ false → s .page ≡ page
     saved : s .saved ≡ true → StepSaved (s .page)
 
-  saved-page : (saves : Option Setting) → sound page ≡ true → settingsAllowed w ≡ true → isSave saves ≡ true → StepSaved (pageAfter saves w page)
-  saved-page none h a e = differ (sym e)
-  saved-page (some s) h a e = record { setting = s; written = page-changes (some s) w page h a .saved-page }
-
-  answer-saved : (c : Command) → sound page ≡ true → settingsAllowed w ≡ true → answering c w room page .answer .saved ≡ true → StepSaved (answering c w room page .page)
-  unfolding answering
-  answer-saved c h a e = saved-page (effectOf (loadedFrom page) w c .saves) h a e
-
-  step-keeps : sound page ≡ true → settingsAllowed w ≡ true → StepKeeps (stepOf held w chunk room page)
+  step-keeps : sound page ≡ true → settingsAllowed w ≡ true → StepKeeps (stepOf port held w chunk room page)
   unfolding stepOf
   step-keeps h a = go (seek front (held ++ chunk))
     where
-      go : (q : Sought) → StepKeeps (stepOn q held w chunk room page)
+      go : (q : Sought) → StepKeeps (stepOn port q held w chunk room page)
       go (Starved k) = record { settings-allowed = a; page-kept-sound = h; unsaved = λ e. refl; saved = λ e. differ (sym e) }
       go (Found k n good) =
-          let c : Command = commandOf good (drop k (held ++ chunk)) in
-          let t = answer-keeps c w room page h a in
-          record { settings-allowed = t .settings-allowed; page-kept-sound = t .page-sound; unsaved = t .unsaved; saved = answer-saved c h a }
+          let t = answer-keeps port (receivedOf good (drop k (held ++ chunk))) w room page h a in
+          record {
+            settings-allowed = t .settings-allowed;
+            page-kept-sound = t .page-sound;
+            unsaved = λ e. t .saved .written ∙ ap (savesOn page) (t .saved .none e);
+            saved = λ e. record { saves = t .saved .saves; some-saves = t .saved .some e; written = t .saved .written };
+          }
 
   -- What it reports: a whole reply, or nothing; and how its counts add up.
   record StepReply (after : List ℕ) : Type 0 where
@@ -150,16 +148,17 @@ module _ (held : List ℕ) (w : Settings) (chunk room page : List ℕ) where
   zero-not-one : {A : Type 0} → _≡_ {A = ℕ} 0 1 → A
   zero-not-one e = let no : ⊥ = omega (arith, e) in absurd no
 
-  answer-reply : (c : Command) → replyRoom ≤ length room → StepReply (answering c w room page .room)
-  unfolding replyOf
-  answer-reply c large =
-      let p : List ℕ = replyPayload c (errorOf c) (effectOf (loadedFrom page) w c .row) in
-      let few : length p ≤ 255 = omega (arith, effect-row (loadedFrom page) w c) in
+  answer-reply : (m : Received) → replyRoom ≤ length room → StepReply (answering port m w room page .room)
+  answer-reply m large =
+      let x : Kept = record { settings = w; page = page } in
+      let rows : List ℕ = messageOutcome (pageAccess port) x m .rows in
+      let most = longest-reply .most (List ℕ) (pageAccess port) x m in
+      let few : length rows ≤ 255 = omega (arith, most, message-length (m .kind) rows) in
       record {
-        reply = replyOf (loadedFrom page) w c;
-        whole = written-is-read (c .kind) p few .whole;
-        fits = reply-fits (loadedFrom page) w c;
-        room-after = reply-whole c w room page large .room-after;
+        reply = replyTo port m w page;
+        whole = written-is-read (m .kind) rows few .whole;
+        fits = most;
+        room-after = reply-whole port m w room page large;
       }
 
   found-sum : (k n : ℕ) (good : Bool) → 1 ≤ n → k + n ≤ length held + length chunk
@@ -175,11 +174,11 @@ module _ (held : List ℕ) (w : Settings) (chunk room page : List ℕ) where
       go true e = omega (arith, s, e)
       go false e = omega (arith, s, e)
 
-  step-tells : replyRoom ≤ length room → StepTells (seek front (held ++ chunk)) (stepOf held w chunk room page)
+  step-tells : replyRoom ≤ length room → StepTells (seek front (held ++ chunk)) (stepOf port held w chunk room page)
   unfolding stepOf
   step-tells large = go (seek front (held ++ chunk)) refl
     where
-      go : (q : Sought) → seek front (held ++ chunk) ≡ q → StepTells q (stepOn q held w chunk room page)
+      go : (q : Sought) → seek front (held ++ chunk) ≡ q → StepTells q (stepOn port q held w chunk room page)
       go (Starved k) e =
           let s : StarvedAt front mostUndecided (held ++ chunk) k = subst (Agrees front mostUndecided (held ++ chunk)) e (cutting-harmless .agrees (held ++ chunk)) in
           record {
@@ -194,7 +193,7 @@ module _ (held : List ℕ) (w : Settings) (chunk room page : List ℕ) where
       go (Found k n good) e =
           let s = cutting-harmless .found-sized (held ++ chunk) k n good e in
           record {
-            reported = λ z. answer-reply (commandOf good (drop k (held ++ chunk))) large;
+            reported = λ z. answer-reply (receivedOf good (drop k (held ++ chunk))) large;
             all-taken = zero-not-one;
             no-save = zero-not-one;
             room-same = zero-not-one;
@@ -263,11 +262,11 @@ module _ (port : ℕ) (b : Board) (chunk room page : List ℕ) where
     refused : 1 < f .answer .number → f ≡ refusedFeeding (f .answer .number) b room page
     fed-port : f .answer .number ≤ 1 → portOf port (f .answer .board) ≡ portHolding (heldBytes (portOf port (f .answer .board)))
     other-port : f .answer .number ≤ 1 → portOf (otherPort port) (f .answer .board) ≡ portOf (otherPort port) b
-    saved : f .answer .saved ≡ true → StepSaved (heldBytes (portOf port b)) (b .settings) chunk room page (f .page)
+    saved : f .answer .saved ≡ true → StepSaved port (heldBytes (portOf port b)) (b .settings) chunk room page (f .page)
     unsaved : f .answer .saved ≡ false → f .page ≡ page
     board-sound : isSound b ≡ true → isSound (f .answer .board) ≡ true
     page-stays : pageNumber page ≡ 0 → pageNumber (f .page) ≡ 0
-    reported : f .answer .number ≡ 0 → StepReply (heldBytes (portOf port b)) (b .settings) chunk room page (f .room)
+    reported : f .answer .number ≡ 0 → StepReply port (heldBytes (portOf port b)) (b .settings) chunk room page (f .room)
     all-taken : f .answer .number ≡ 1 → f .answer .taken ≡ length chunk
     no-save : f .answer .number ≡ 1 → f .answer .saved ≡ false
     room-same : f .answer .number ≡ 1 → f .room ≡ room
@@ -296,16 +295,16 @@ module _ (port : ℕ) (b : Board) (chunk room page : List ℕ) where
       }
 
   abbrev this : PortStep
-  this = stepOf (heldBytes (portOf port b)) (b .settings) chunk room page
+  this = stepOf port (heldBytes (portOf port b)) (b .settings) chunk room page
 
   accepted-keeps : Passed port b room page → KeptBy (feedOn this port b)
   accepted-keeps p =
       let s = parts (b .first .held) (b .second .held) (b .settings) (p .sound-board) in
       let h : sound page ≡ true = page-sound page (p .passing-page) in
-      let k = step-keeps (heldBytes (portOf port b)) (b .settings) chunk room page h (s .allowed-settings) in
-      let t = step-tells (heldBytes (portOf port b)) (b .settings) chunk room page (p .large-room) in
-      let few = step-few (heldBytes (portOf port b)) (b .settings) chunk room page (port-few port b s) in
-      let n = step-number (heldBytes (portOf port b)) (b .settings) chunk room page in
+      let k = step-keeps port (heldBytes (portOf port b)) (b .settings) chunk room page h (s .allowed-settings) in
+      let t = step-tells port (heldBytes (portOf port b)) (b .settings) chunk room page (p .large-room) in
+      let few = step-few port (heldBytes (portOf port b)) (b .settings) chunk room page (port-few port b s) in
+      let n = step-number port (heldBytes (portOf port b)) (b .settings) chunk room page in
       record {
         refused = λ l. (let no : ⊥ = omega (arith, n, l) in absurd no);
         fed-port = λ l. with-fed port b (this .held) (this .settings);
@@ -357,7 +356,7 @@ feeds-keep port b chunk room page =
       reported = λ e. (let r = k .reported e in record { reply = r .reply; whole = r .whole; fits = r .fits; room-after = r .room-after });
       used-up = λ e. record { all-taken = k .all-taken e; no-save = k .no-save e; room-same = k .room-same e; page-same = k .page-same e; settings-same = k .settings-same e };
       sum = k .sum;
-      saved = λ e. (let s = k .saved e in record { setting = s .setting; written = s .written });
+      saved = λ e. (let s = k .saved e in record { saves = s .saves; some = s .some-saves; written = s .written });
       unsaved = k .unsaved;
       board-sound = k .board-sound;
       page-sound = k .page-stays;
@@ -410,7 +409,7 @@ module _ (port : ℕ) (b : Board) (chunk room page : List ℕ) where
 
   accepted-number : feedNumber port (b .first .held) (b .second .held) (b .settings) room page ≡ 0 → feedOf port b chunk room page .answer .number ≤ 1
   unfolding feedOf
-  accepted-number e = rw e (step-number (heldBytes (portOf port b)) (b .settings) chunk room page)
+  accepted-number e = rw e (step-number port (heldBytes (portOf port b)) (b .settings) chunk room page)
 
   pub first-number : FirstNumber port b chunk room page
   first-number =

@@ -7,9 +7,8 @@ use Prim.Native.Nat.{ℕ}
 use lib.Dec.{eqb}
 use lib.ListN.{length}
 use borrow.Author.Tests.{eq-eqb}
-use Rattle.stream.specs.Scan.{Message}
 use Rattle.history.specs.Program.{passing}
-use Rattle.history.specs.Theorems.{Handled, Handles}
+use Rattle.history.specs.Theorems.{Handles}
 use Rattle.page.specs.declared.setting.Setting.{Setting}
 use Rattle.page.specs.declared.setting.Values.{Values}
 use Rattle.page.specs.Settings.{allowed, factoryValue}
@@ -19,12 +18,15 @@ use Rattle.page.specs.Theorems.{valueOr}
 use Rattle.page.proofs.Pages.{writing-size, read-back, writing-sound}
 use Rattle.command.specs.declared.settings.Settings.{Settings}
 use Rattle.command.specs.declared.command.Command.{Command}
-use Rattle.command.specs.Command.{commandOf}
 use Rattle.command.specs.Effects.{workingValue, Effect, effectOf, settingsAllowed}
-use Rattle.command.specs.Answer.{loadedFrom, pageAfter}
+use Rattle.command.specs.Outcome.{receivedOf, pageAfter, fieldOutcome}
+use Rattle.command.specs.Answer.{loadedFrom, savedOn, pageAccess}
+use Rattle.command.specs.Theorems.{Alike}
+use Rattle.command.proofs.Separate.{fields-alike}
+use Rattle.message.specs.Message.{messageOf}
 use Rattle.command.proofs.Keeps.{value-allowed, keeps-allowed}
 use Rattle.command.proofs.Pages.{loaded-stored, page-changes, put-allowed}
-use Rattle.board.specs.Handling.{Reckoned, Kept, loadedOf, valuesAfter, reckonMessage, handleMessage, keptTests, StoredAs}
+use Rattle.board.specs.Handling.{handleOn, Reckoned, Kept, loadedOf, valuesAccess, reckonMessage, handleMessage, keptTests, StoredAs}
 
 -- What is loaded from the writing of values is what those values give.
 pub loaded-same : (v : Values) → allAllowed v ≡ true → loadedOf v ≡ loadedFrom (writing v)
@@ -36,11 +38,11 @@ loaded-allowed v a s =
 
 -- A save leaves the writing of the values that it leaves.
 after-same : (saves : Option Setting) (w : Settings) (v : Values) → allAllowed v ≡ true → settingsAllowed w ≡ true
-    → (pageAfter saves w (writing v) ≡ writing (valuesAfter saves w v)) × (allAllowed (valuesAfter saves w v) ≡ true)
+    → (pageAfter savedOn saves w (writing v) ≡ writing (pageAfter withValue saves w v)) × (allAllowed (pageAfter withValue saves w v) ≡ true)
 unfolding savedPage
 after-same none w v a s = (refl, a)
 after-same (some t) w v a s = (
-  page-changes (some t) w (writing v) (writing-sound v a) s .saved-page ∙ ap (λ (u : Values). writing (withValue u t (workingValue w t))) (read-back v a),
+  page-changes (writing v) t (workingValue w t) (writing-sound v a) (value-allowed w t s) .saved-page ∙ ap (λ (u : Values). writing (withValue u t (workingValue w t))) (read-back v a),
   put-allowed v t (workingValue w t) a (value-allowed w t s),
 )
 
@@ -48,22 +50,21 @@ passes-tests : (x : Reckoned) (y : Kept) → StoredAs x y → keptTests y ≡ pa
 unfolding keptTests
 passes-tests x y r =
     let a : settingsAllowed (y .settings) ≡ true = rw (r .settings) at (r .settings-allowed) in
-    let l : eqb (length (y .page)) pageSize ≡ true = eq-eqb (length (y .page)) pageSize (ap length (r .page) ∙ writing-size (x .values)) in
-    let s : sound (y .page) ≡ true = rw (r .page) (writing-sound (x .values) (r .values-allowed)) in
+    let l : eqb (length (y .page)) pageSize ≡ true = eq-eqb (length (y .page)) pageSize (ap length (r .page) ∙ writing-size (x .page)) in
+    let s : sound (y .page) ≡ true = rw (r .page) (writing-sound (x .page) (r .values-allowed)) in
     rw (a, l, s)
 
--- Both sides of a command, with the page as the writing of the values.
-both-handled : (w : Settings) (v : Values) (m : Message) (port : ℕ) → settingsAllowed w ≡ true → allAllowed v ≡ true
-    → Handled StoredAs (reckonMessage port (record { settings = w; values = v }) m) (handleMessage port (record { settings = w; page = writing v }) m)
-unfolding reckonMessage handleMessage
-both-handled w v m port a b =
-    let c : Command = commandOf (m .good) (m .bytes) in
+-- Both sides of a field, with the page as the writing of the values.
+both-handled : (port : ℕ) (w : Settings) (v : Values) (c : Command) → settingsAllowed w ≡ true → allAllowed v ≡ true
+    → Alike StoredAs (fieldOutcome (valuesAccess port) (record { settings = w; page = v }) c) (fieldOutcome (pageAccess port) (record { settings = w; page = writing v }) c)
+unfolding fieldOutcome
+both-handled port w v c a b =
     let l : loadedFrom (writing v) ≡ loadedOf v = sym (loaded-same v b) in
     let e : Effect = effectOf (loadedOf v) w c in
     let k = after-same (e .saves) w v b a in
     rw l
     (record {
-      reply = refl;
+      rows = refl;
       saved = refl;
       next = record {
         settings = refl;
@@ -73,15 +74,19 @@ both-handled w v m port a b =
       };
     })
 
+field-handled : (port : ℕ) (x : Reckoned) (y : Kept) (c : Command) → StoredAs x y → Alike StoredAs (fieldOutcome (valuesAccess port) x c) (fieldOutcome (pageAccess port) y c)
+field-handled port x y c r =
+    let e : y ≡ record { settings = x .settings; page = writing (x .page) } =
+    ap (λ (w : Settings). record { settings = w; page = y .page }) (sym (r .settings)) ∙ ap (λ (p : List ℕ). record { settings = x .settings; page = p }) (r .page) in
+    rw e (both-handled port (x .settings) (x .page) c (r .settings-allowed) (r .values-allowed))
+
+-- And so both sides of a message.
 pub handles : Handles StoredAs reckonMessage keptTests handleMessage
+unfolding handleOn
 handles =
     record {
       passes = passes-tests;
-      handled = λ port x y m r. go port x y m r;
+      handled = λ port x y m r.
+          (let a = fields-alike Values (List ℕ) (valuesAccess port) (pageAccess port) StoredAs (field-handled port) x y (receivedOf (m .good) (m .bytes)) r in
+          record { reply = ap (messageOf (receivedOf (m .good) (m .bytes) .kind)) (a .rows); saved = a .saved; next = a .next });
     }
-  where
-    go : (port : ℕ) (x : Reckoned) (y : Kept) (m : Message) → StoredAs x y → Handled StoredAs (reckonMessage port x m) (handleMessage port y m)
-    go port x y m r =
-        let e : y ≡ record { settings = x .settings; page = writing (x .values) } =
-        ap (λ (w : Settings). record { settings = w; page = y .page }) (sym (r .settings)) ∙ ap (λ (p : List ℕ). record { settings = x .settings; page = p }) (r .page) in
-        rw e (both-handled (x .settings) (x .values) m port (r .settings-allowed) (r .values-allowed))

@@ -41,7 +41,7 @@ module _ (port : ℕ) (bytes : List ℕ) (first second : ℕ) (w : Settings) (ro
     unfolding placeOf
     place-refused chunk z = rw (hs, ← ns) (go n z)
       where
-        go : (n : ℕ) → (n ≡ 0 → ⊥) → refusedStepping n (namedHeld port first second) w bytes room page ≡ placeOn n bytes (namedHeld port first second) w chunk room page
+        go : (n : ℕ) → (n ≡ 0 → ⊥) → refusedStepping n (namedHeld port first second) w bytes room page ≡ placeOn n port bytes (namedHeld port first second) w chunk room page
         go zero z = absurd (z refl)
         go (suc n) z = refl
 
@@ -70,7 +70,7 @@ module _ (port : ℕ) (bytes : List ℕ) (first second : ℕ) (w : Settings) (ro
         go (suc q) = p .second-few
 
     pub place-done : (chunk : List ℕ) → n ≡ 0 → (r : Stepped) (bytesAfter roomAfter pageAfter : List ℕ)
-        → record { step = r; bytes = bytesAfter; room = roomAfter; page = pageAfter } ≡ inPlace (stepOf (take h bytes) w chunk room page)
+        → record { step = r; bytes = bytesAfter; room = roomAfter; page = pageAfter } ≡ inPlace (stepOf port (take h bytes) w chunk room page)
         → record { step = r; bytes = bytesAfter; room = roomAfter; page = pageAfter } ≡ placeOf port bytes first second w chunk room page
     unfolding placeOf
     place-done chunk z r bytesAfter roomAfter pageAfter e = e ∙ rw (← ns, z, hs)
@@ -105,6 +105,6 @@ in-place-is-feed port b chunk room page l =
     rw (same-number port (portOf port b .bytes) (b .first .held) (b .second .held) (b .settings) room page l, held-is port b)
     (go (feedNumber port (b .first .held) (b .second .held) (b .settings) room page))
   where
-    go : (n : ℕ) → putBack port b (placeOn n (portOf port b .bytes) (portOf port b .held) (b .settings) chunk room page) ≡ acceptOn n port b chunk room page
-    go zero = put-done port b (stepOf (heldBytes (portOf port b)) (b .settings) chunk room page)
+    go : (n : ℕ) → putBack port b (placeOn n port (portOf port b .bytes) (portOf port b .held) (b .settings) chunk room page) ≡ acceptOn n port b chunk room page
+    go zero = put-done port b (stepOf port (heldBytes (portOf port b)) (b .settings) chunk room page)
     go (suc n) = put-refused port b (suc n) room page

@@ -17,7 +17,7 @@ use Rattle.message.specs.Front.{front, mostUndecided}
 use Rattle.message.specs.Whole.{refuse}
 use Rattle.message.proofs.Framed.{cutting-harmless}
 use Rattle.command.specs.declared.settings.Settings.{Settings}
-use Rattle.command.specs.Command.{commandOf}
+use Rattle.command.specs.Outcome.{receivedOf}
 use Rattle.command.specs.declared.answer.Answer.{Answer}
 use Rattle.command.specs.Answer.{Answering, answering}
 use Rattle.command.specs.Effects.{settingsAllowed}
@@ -73,12 +73,12 @@ module _ (b chunk : List ℕ) (held : ℕ) (few : held ≤ 260) (long : length b
     pub starved-kept : (y : List ℕ) → y ≡ padded (take (held + length chunk - k) (drop k (take held b ++ chunk))) → y ≡ padded (drop k (take held b ++ chunk))
     starved-kept y ys = ys ∙ ap padded (take-all (held + length chunk - k) (drop k (take held b ++ chunk)) (omega (arith, starved-long)))
 
-    pub starved-step : (w : Settings) (room page y : List ℕ) (r : Stepped)
+    pub starved-step : (port : ℕ) (w : Settings) (room page y : List ℕ) (r : Stepped)
         → r ≡ record { number = 1; taken = length chunk; skipped = k; saved = false; held = length (drop k (take held b ++ chunk)); settings = w }
         → y ≡ padded (drop k (take held b ++ chunk))
-        → record { step = r; bytes = y; room = room; page = page } ≡ inPlace (stepOf (take held b) w chunk room page)
+        → record { step = r; bytes = y; room = room; page = page } ≡ inPlace (stepOf port (take held b) w chunk room page)
     unfolding stepOf
-    starved-step w room page y r rs ys = rw (rs, ys, e)
+    starved-step port w room page y r rs ys = rw (rs, ys, e)
 
   -- ---- a message found
 
@@ -95,16 +95,16 @@ module _ (b chunk : List ℕ) (held : ℕ) (few : held ≤ 260) (long : length b
     pub found-at : k ≤ held + length chunk
     found-at = omega (arith, found-in)
 
-    pub found-step : (w : Settings) (room page : List ℕ) (a : Answer) (roomAfter pageAfter : List ℕ)
-        → record { answer = a; room = roomAfter; page = pageAfter } ≡ answering (commandOf good (drop k (take held b ++ chunk))) w room page
+    pub found-step : (port : ℕ) (w : Settings) (room page : List ℕ) (a : Answer) (roomAfter pageAfter : List ℕ)
+        → record { answer = a; room = roomAfter; page = pageAfter } ≡ answering port (receivedOf good (drop k (take held b ++ chunk))) w room page
         → (t : ℕ) → t ≡ k + n - held
         → (sk : ℕ) → sk ≡ skippedBy k good
         → (l : ℕ) → l ≡ length (leftOf k n good (take held b) chunk)
         → (y : List ℕ) → y ≡ padded (leftOf k n good (take held b) chunk)
         → record { step = record { number = 0; taken = t; skipped = sk; saved = a .saved; held = l; settings = a .settings }; bytes = y; room = roomAfter; page = pageAfter }
-        ≡ inPlace (stepOf (take held b) w chunk room page)
+        ≡ inPlace (stepOf port (take held b) w chunk room page)
     unfolding stepOf
-    found-step w room page a roomAfter pageAfter g t ts sk sks l ls y ys =
+    found-step port w room page a roomAfter pageAfter g t ts sk sks l ls y ys =
         let h : k + n - length (take held b) ≡ k + n - held = ap (λ (i : ℕ). k + n - i) held-long in
         rw (e, ys, ls, sks, ts, ← h)
         (ap (λ (g : Answering). record {
@@ -210,16 +210,16 @@ module _ (port : ℕ) (b : Board) (chunk room page : List ℕ) (n : ℕ) (ns : n
   second-sound z = ltb-false 260 (b .second .held) (sound z .1)
 
   module _ (r : Fed) (roomAfter pageAfter : List ℕ) where
-    pub feed-on-first : n ≡ 0 → port ≡ 0 → record { answer = r; room = roomAfter; page = pageAfter } ≡ feedOn (stepOf (heldBytes (b .first)) (b .settings) chunk room page) 0 b
+    pub feed-on-first : n ≡ 0 → port ≡ 0 → record { answer = r; room = roomAfter; page = pageAfter } ≡ feedOn (stepOf port (heldBytes (b .first)) (b .settings) chunk room page) 0 b
         → record { answer = r; room = roomAfter; page = pageAfter } ≡ feedOf port b chunk room page
     unfolding feedOf
     feed-on-first z p e = e ∙ rw (← ns, z, p)
 
-    pub feed-on-second : n ≡ 0 → (port ≡ 0 → ⊥) → record { answer = r; room = roomAfter; page = pageAfter } ≡ feedOn (stepOf (heldBytes (b .second)) (b .settings) chunk room page) 1 b
+    pub feed-on-second : n ≡ 0 → (port ≡ 0 → ⊥) → record { answer = r; room = roomAfter; page = pageAfter } ≡ feedOn (stepOf port (heldBytes (b .second)) (b .settings) chunk room page) 1 b
         → record { answer = r; room = roomAfter; page = pageAfter } ≡ feedOf port b chunk room page
     unfolding feedOf
     feed-on-second z p e = e ∙ rw (← ns, z) (go port p)
       where
-        go : (port : ℕ) → (port ≡ 0 → ⊥) → feedOn (stepOf (heldBytes (b .second)) (b .settings) chunk room page) 1 b ≡ feedOn (stepOf (heldBytes (portOf port b)) (b .settings) chunk room page) port b
+        go : (port : ℕ) → (port ≡ 0 → ⊥) → feedOn (stepOf port (heldBytes (b .second)) (b .settings) chunk room page) 1 b ≡ feedOn (stepOf port (heldBytes (portOf port b)) (b .settings) chunk room page) port b
         go zero p = absurd (p refl)
         go (suc port) p = refl

@@ -89,20 +89,20 @@ module _ (v : Values) (cs : List Call) (a : allAllowed v ≡ true) where
   abbrev program : Run (State (List ℕ) Kept)
   program = programFrom (stateOf (freshBoard w) (writing v)) (feedsOf cs)
 
-  stored : StoredAs (record { settings = w; values = v }) (record { settings = w; page = writing v })
+  stored : StoredAs (record { settings = w; page = v }) (record { settings = w; page = writing v })
   stored = record { settings = refl; page = refl; settings-allowed = settings-allowed v a; values-allowed = a }
 
   matched : Matches StoredAs reckoned program
   unfolding heldProgram
   matched =
       demand3 front mostUndecided replyRoom StoredAs reckonMessage keptTests handleMessage cutting-harmless handles
-      (record { settings = w; values = v }) (record { settings = w; page = writing v }) (feedsOf cs) stored
+      (record { settings = w; page = v }) (record { settings = w; page = writing v }) (feedsOf cs) stored
 
   few : (p : ℕ) → length (keptPort p (program .final)) ≤ portRoom
   unfolding heldProgram
   few p =
       heldFew front mostUndecided replyRoom StoredAs reckonMessage keptTests handleMessage cutting-harmless handles p
-      (record { settings = w; values = v }) (record { settings = w; page = writing v }) (feedsOf cs) stored
+      (record { settings = w; page = v }) (record { settings = w; page = writing v }) (feedsOf cs) stored
 
   record Whole : Type 0 where
     told : AllTold cs (calls .feedings) (reckoned .answers)
@@ -111,7 +111,7 @@ module _ (v : Values) (cs : List Call) (a : allAllowed v ≡ true) where
     second-port : calls .board .second ≡ portHolding (heldOf (reckoned .final .port1))
     first-few : length (heldOf (reckoned .final .port0)) ≤ portRoom
     second-few : length (heldOf (reckoned .final .port1)) ≤ portRoom
-    page-written : calls .page ≡ writing (reckoned .final .values .values)
+    page-written : calls .page ≡ writing (reckoned .final .values .page)
 
   whole : Whole
   whole =
@@ -142,7 +142,7 @@ module _ (v : Values) (cs : List Call) (a : allAllowed v ≡ true) where
   unfolding heldProgram
   account port h =
       portAccounts front mostUndecided replyRoom StoredAs reckonMessage keptTests handleMessage cutting-harmless handles port
-      (record { settings = w; values = v }) (record { settings = w; page = writing v }) (feedsOf cs) h stored
+      (record { settings = w; page = v }) (record { settings = w; page = writing v }) (feedsOf cs) h stored
 
   added : (port : ℕ) → port ≤ 1 → PortAccount front mostUndecided (historyOf port unfed (feedsOf cs) (reckoned .answers)) (heldBytes (portOf port (calls .board)))
   added port h = rw (← matched .answers, ← port-held port) (account port h)

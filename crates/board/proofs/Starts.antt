@@ -13,7 +13,7 @@ use Rattle.stream.specs.Seek.{resume, skippedBy}
 use Rattle.message.proofs.Windows.{drop-chunk}
 use Rattle.page.specs.Sound.{pageNumber}
 use Rattle.command.specs.declared.settings.Settings.{Settings}
-use Rattle.command.specs.Command.{commandOf}
+use Rattle.command.specs.Outcome.{receivedOf}
 use Rattle.command.specs.Answer.{settingsFrom, Answering, answering}
 use Rattle.command.specs.Effects.{settingsAllowed}
 use Rattle.board.specs.declared.board.Board.{Board}
@@ -63,13 +63,13 @@ module _ (port first second : ℕ) (w : Settings) (room page : List ℕ) where
         number-settings h = rw (le-ltb 1 port p, le-ltb 260 first a, le-ltb 260 second b, ← ss, h)
 
         module _ (h : not s ≡ false) where
-          pub number-18 : length room < 16 → 18 ≡ feedNumber port first second w room page
+          pub number-18 : length room < 166 → 18 ≡ feedNumber port first second w room page
           unfolding feedNumber unsound
-          number-18 l = rw (le-ltb 1 port p, le-ltb 260 first a, le-ltb 260 second b, ← ss, h, lt-ltb (length room) 16 l)
+          number-18 l = rw (le-ltb 1 port p, le-ltb 260 first a, le-ltb 260 second b, ← ss, h, lt-ltb (length room) 166 l)
 
-          pub number-page : 16 ≤ length room → (n : ℕ) → n ≡ pageNumber page → n ≡ feedNumber port first second w room page
+          pub number-page : 166 ≤ length room → (n : ℕ) → n ≡ pageNumber page → n ≡ feedNumber port first second w room page
           unfolding feedNumber unsound
-          number-page l n e = rw (le-ltb 1 port p, le-ltb 260 first a, le-ltb 260 second b, ← ss, h, le-ltb (length room) 16 l) e
+          number-page l n e = rw (le-ltb 1 port p, le-ltb 260 first a, le-ltb 260 second b, ← ss, h, le-ltb (length room) 166 l) e
 
 -- ---- a message's place
 
@@ -117,7 +117,7 @@ module _ (bytes chunk : List ℕ) (held k : ℕ) (good : Bool) (fits : held ≤ 
           let f : held - (held - x) ≡ 0 = omega arith in
           rw (f, ps) (row-chunk (omega arith))
 
-  pub answer-left : (x past : ℕ) → x ≡ held - k → past ≡ k - held → (w : Settings) (room page : List ℕ) (done : Answering)
-      → done ≡ answering (commandOf good (take (held - (held - x)) (drop (held - x) bytes) ++ take (length chunk - past) (drop past chunk))) w room page
-      → done ≡ answering (commandOf good (drop k (take held bytes ++ chunk))) w room page
-  answer-left x past xs ps w room page done h = h ∙ ap (λ (m : List ℕ). answering (commandOf good m) w room page) (row-left x past xs ps)
+  pub answer-left : (port x past : ℕ) → x ≡ held - k → past ≡ k - held → (w : Settings) (room page : List ℕ) (done : Answering)
+      → done ≡ answering port (receivedOf good (take (held - (held - x)) (drop (held - x) bytes) ++ take (length chunk - past) (drop past chunk))) w room page
+      → done ≡ answering port (receivedOf good (drop k (take held bytes ++ chunk))) w room page
+  answer-left port x past xs ps w room page done h = h ∙ ap (λ (m : List ℕ). answering port (receivedOf good m) w room page) (row-left x past xs ps)

@@ -1,14 +1,14 @@
 -- A feed of the board is a feed of the program that keeps only held bytes.
 use mathlib.Core.Bool.{Bool, true, false, _||_, not}
 use mathlib.Core.List.{List, _++_}
-use mathlib.Core.Path.{_≡_, refl, sym, ap, _∙_}
+use mathlib.Core.Path.{_≡_, refl, sym, ap, subst, _∙_}
 use Prim.Native.Nat.{ℕ, zero, suc, _+_, _-_, _≤_}
 use lib.Dec.{eqb, ltb}
 use lib.ListN.{length, take, drop}
 use borrow.Author.Tests.{ltb-false}
 use Rattle.stream.specs.declared.Sought.{Sought}
 use Rattle.stream.specs.declared.Sought.the-variants.{Starved, Found}
-use Rattle.stream.specs.Seek.{seek, resume}
+use Rattle.stream.specs.Seek.{seek, resume, skippedBy}
 use Rattle.history.specs.Feeds.{Feed, Step, State, Turn, refused, settled, accept}
 use Rattle.history.specs.Feeds.{refuse as refuseStep, portOf as keptPort}
 use Rattle.history.specs.Program.{heldOn, heldFeed, heldStep}
@@ -17,15 +17,15 @@ use Rattle.message.specs.Whole.{refuse}
 use Rattle.page.specs.Page.{pageSize}
 use Rattle.page.specs.Sound.{sound, pageNumber}
 use Rattle.command.specs.declared.settings.Settings.{Settings}
-use Rattle.command.specs.Command.{commandOf}
-use Rattle.command.specs.Answer.{answering, replyRoom}
+use Rattle.command.specs.Outcome.{Received, receivedOf}
+use Rattle.command.specs.Answer.{Answering, answering, replyRoom}
+use Rattle.command.proofs.Pages.{answer-large}
 use Rattle.command.specs.Effects.{settingsAllowed}
-use Rattle.command.proofs.Pages.{reply-whole}
 use Rattle.board.specs.declared.port.Port.{Port}
 use Rattle.board.specs.declared.board.Board.{Board}
 use Rattle.board.specs.Port.{heldBytes, portHolding, portOf, withPort}
-use Rattle.board.specs.Feed.{Feeding, unsound, feedNumber, refusedFeeding, stepOn, stepOf, feedOn, acceptOn, feedOf}
-use Rattle.board.specs.Handling.{Kept, handleMessage, keptTests}
+use Rattle.board.specs.Feed.{Feeding, PortStep, leftOf, unsound, feedNumber, refusedFeeding, stepOn, stepOf, feedOn, acceptOn, feedOf}
+use Rattle.board.specs.Handling.{Kept, handleOn, handleMessage, keptTests}
 use Rattle.board.specs.Runs.{Call, Told}
 use Rattle.board.proofs.Follows.{holding, found-visible}
 
@@ -59,7 +59,7 @@ with-padded (suc p) b bs w k = record { first = k .first; second = holding-padde
 
 -- ---- an accepted feed, by where the seek ends
 
--- A call with a room of 16 bytes or more.
+-- A call with a room of 166 bytes or more.
 module _ (b : Board) (page : List ℕ) (c : Call) (k : Padded b) (large : replyRoom ≤ length (c .room)) where
   abbrev held : List ℕ
   held = heldBytes (portOf (c .port) b)
@@ -72,9 +72,23 @@ module _ (b : Board) (page : List ℕ) (c : Call) (k : Padded b) (large : replyR
   state-after zero t = rw (holding (t .port))
   state-after (suc p) t = rw (holding (t .port))
 
+  -- The step of a message that is found, with its answer.
+  abbrev foundStep : ℕ → ℕ → Bool → Answering → PortStep
+  foundStep i n good a =
+      record {
+        number = 0;
+        taken = i + n - length held;
+        skipped = skippedBy i good;
+        saved = a .answer .saved;
+        held = leftOf i n good held (c .chunk);
+        settings = a .answer .settings;
+        room = a .room;
+        page = a .page;
+      }
+
   accepted : (q : Sought) → seek front (held ++ c .chunk) ≡ q
-      → Same c (feedOn (stepOn q held (b .settings) (c .chunk) (c .room) page) (c .port) b) (accept (c .port) (stateOf b page) (turn q))
-  unfolding heldOn handleMessage answering
+      → Same c (feedOn (stepOn (c .port) q held (b .settings) (c .chunk) (c .room) page) (c .port) b) (accept (c .port) (stateOf b page) (turn q))
+  unfolding heldOn handleOn
   accepted (Starved i) e =
       record {
         told = record { number = refl; taken = refl; skipped = refl; saved = refl; room = refl };
@@ -83,11 +97,11 @@ module _ (b : Board) (page : List ℕ) (c : Call) (k : Padded b) (large : replyR
       }
   accepted (Found i n good) e =
       let visible : List ℕ = held ++ take (i + n - length held) (c .chunk) in
-      let same : commandOf good (drop i (held ++ c .chunk)) ≡ commandOf good (take n (drop i visible)) = found-visible held (c .chunk) i n good e in
-      let r = reply-whole (commandOf good (take n (drop i visible))) (b .settings) (c .room) page large in
-      rw same
+      let same : receivedOf good (drop i (held ++ c .chunk)) ≡ receivedOf good (take n (drop i visible)) = found-visible held (c .chunk) i n good e in
+      let answer = ap (λ (m : Received). answering (c .port) m (b .settings) (c .room) page) same ∙ answer-large (c .port) (receivedOf good (take n (drop i visible))) (b .settings) (c .room) page large in
+      subst (λ (a : Answering). Same c (feedOn (foundStep i n good a) (c .port) b) (accept (c .port) (stateOf b page) (turn (Found i n good)))) (sym answer)
       (record {
-        told = record { number = refl; taken = refl; skipped = refl; saved = refl; room = r .room-after };
+        told = record { number = refl; taken = refl; skipped = refl; saved = refl; room = refl };
         state = state-after (c .port) (turn (Found i n good));
         padded = with-padded (c .port) b (drop (resume i n good) visible) _ k;
       })

@@ -11,8 +11,8 @@ use Rattle.message.specs.Front.{front}
 use Rattle.message.specs.Whole.{refuse}
 use Rattle.page.specs.Sound.{pageNumber}
 use Rattle.command.specs.declared.settings.Settings.{Settings}
-use Rattle.command.specs.Command.{commandOf}
-use Rattle.command.specs.Answer.{Answering, answering, replyRoom}
+use Rattle.command.specs.Outcome.{receivedOf}
+use Rattle.command.specs.Answer.{replyRoom, Answering, answering}
 use Rattle.command.specs.Effects.{settingsAllowed}
 use Rattle.board.specs.declared.board.Board.{Board}
 use Rattle.board.specs.declared.board.Fed.{Fed}
@@ -31,7 +31,7 @@ pub record Feeding : Type 0 where
 unfoldable pub unsound : ℕ → ℕ → Settings → Bool
 unsound first second w = ltb portRoom first || ltb portRoom second || not (settingsAllowed w)
 
--- 16: port not 0 or 1; 17: board unsound; 18: room under 16 bytes; 19, 20: the page.
+-- 16: port not 0 or 1; 17: board unsound; 18: room under 166 bytes; 19, 20: the page.
 unfoldable pub feedNumber : ℕ → ℕ → ℕ → Settings → List ℕ → List ℕ → ℕ
 feedNumber port first second w room page =
     refuse (ltb 1 port) 16 (refuse (unsound first second w) 17 (refuse (ltb (length room) replyRoom) 18 (pageNumber page)))
@@ -61,9 +61,9 @@ leftOf k n good held chunk = drop (resume k n good) (held ++ take (k + n - lengt
 -- A message is found behind k bytes of those held and then the chunk, n long: bytes are taken up to its end, it is handled (by
 -- its own bytes: `OwnBytes` in crate command), and what is left of the bytes held and taken stays held. Nothing is found: the
 -- whole chunk is taken, and what the seek left undecided stays held.
-abbrev pub stepOn : Sought → List ℕ → Settings → List ℕ → List ℕ → List ℕ → PortStep
-stepOn (Found k n good) held w chunk room page =
-    let a : Answering = answering (commandOf good (drop k (held ++ chunk))) w room page in
+abbrev pub stepOn : ℕ → Sought → List ℕ → Settings → List ℕ → List ℕ → List ℕ → PortStep
+stepOn port (Found k n good) held w chunk room page =
+    let a : Answering = answering port (receivedOf good (drop k (held ++ chunk))) w room page in
     record {
       number = 0;
       taken = k + n - length held;
@@ -74,7 +74,7 @@ stepOn (Found k n good) held w chunk room page =
       room = a .room;
       page = a .page;
     }
-stepOn (Starved k) held w chunk room page =
+stepOn port (Starved k) held w chunk room page =
     record {
       number = 1;
       taken = length chunk;
@@ -87,8 +87,8 @@ stepOn (Starved k) held w chunk room page =
     }
 
 -- An accepted feed of a port that holds some bytes.
-unfoldable pub stepOf : List ℕ → Settings → List ℕ → List ℕ → List ℕ → PortStep
-stepOf held w chunk room page = stepOn (seek front (held ++ chunk)) held w chunk room page
+unfoldable pub stepOf : ℕ → List ℕ → Settings → List ℕ → List ℕ → List ℕ → PortStep
+stepOf port held w chunk room page = stepOn port (seek front (held ++ chunk)) held w chunk room page
 
 -- The board after it.
 abbrev pub feedOn : PortStep → ℕ → Board → Feeding
@@ -106,7 +106,7 @@ feedOn s port b =
     }
 
 abbrev pub acceptOn : ℕ → ℕ → Board → List ℕ → List ℕ → List ℕ → Feeding
-acceptOn zero port b chunk room page = feedOn (stepOf (heldBytes (portOf port b)) (b .settings) chunk room page) port b
+acceptOn zero port b chunk room page = feedOn (stepOf port (heldBytes (portOf port b)) (b .settings) chunk room page) port b
 acceptOn (suc n) port b chunk room page = refusedFeeding (suc n) b room page
 
 -- A feed: the tests, then the named port.
@@ -153,10 +153,10 @@ unfoldable pub placeNumber : ℕ → List ℕ → ℕ → ℕ → Settings → L
 placeNumber port bytes first second w room page =
     refuse (ltb 1 port) 16 (refuse (not (eqb (length bytes) portRoom)) 17 (feedNumber port first second w room page))
 
-abbrev pub placeOn : ℕ → List ℕ → ℕ → Settings → List ℕ → List ℕ → List ℕ → Stepping
-placeOn zero bytes held w chunk room page = inPlace (stepOf (take held bytes) w chunk room page)
-placeOn (suc n) bytes held w chunk room page = refusedStepping (suc n) held w bytes room page
+abbrev pub placeOn : ℕ → ℕ → List ℕ → ℕ → Settings → List ℕ → List ℕ → List ℕ → Stepping
+placeOn zero port bytes held w chunk room page = inPlace (stepOf port (take held bytes) w chunk room page)
+placeOn (suc n) port bytes held w chunk room page = refusedStepping (suc n) held w bytes room page
 
 unfoldable pub placeOf : ℕ → List ℕ → ℕ → ℕ → Settings → List ℕ → List ℕ → List ℕ → Stepping
 placeOf port bytes first second w chunk room page =
-    placeOn (placeNumber port bytes first second w room page) bytes (namedHeld port first second) w chunk room page
+    placeOn (placeNumber port bytes first second w room page) port bytes (namedHeld port first second) w chunk room page

@@ -2,7 +2,6 @@
 -- and page.
 use mathlib.Core.Bool.{true, not}
 use mathlib.Core.List.{List}
-use mathlib.Core.Option.{Option, none, some}
 use mathlib.Core.Path.{_≡_}
 use Prim.Native.Nat.{ℕ}
 use lib.Dec.{eqb}
@@ -18,17 +17,25 @@ use Rattle.page.specs.Page.{storedIn, withValue, allAllowed, writing, pageSize}
 use Rattle.page.specs.Sound.{sound}
 use Rattle.page.specs.Theorems.{valueOr}
 use Rattle.command.specs.declared.settings.Settings.{Settings}
-use Rattle.command.specs.declared.command.Command.{Command}
-use Rattle.command.specs.Command.{commandOf}
-use Rattle.command.specs.Effects.{workingValue, Effect, effectOf, replyOf, settingsAllowed}
-use Rattle.command.specs.Answer.{loadedFrom, isSave, pageAfter}
+use Rattle.command.specs.Outcome.{Access, State, Received, receivedOf, replyOf, messageOutcome}
+use Rattle.command.specs.Answer.{pageAccess}
+use Rattle.command.specs.Effects.{settingsAllowed}
+
+-- A message handled, over any keeping of the page's values: its reply, its save mark, and what is left.
+unfoldable pub handleOn : {P : Type 0} → (ℕ → Access P) → ℕ → State P → Message → Outcome (State P)
+handleOn access port x m =
+    let r : Received = receivedOf (m .good) (m .bytes) in
+    record {
+      reply = replyOf (r .kind) (messageOutcome (access port) x r);
+      saved = messageOutcome (access port) x r .saved;
+      next = messageOutcome (access port) x r .next;
+    }
 
 -- ---- the reckoning
 
 -- The working values; and the page's values, one or none under each code.
-pub record Reckoned : Type 0 where
-  pub settings : Settings
-  pub values : Values
+abbrev pub Reckoned : Type 0
+Reckoned = State Values
 
 -- What is loaded of a setting: the page's value, or the factory value where it has none.
 abbrev pub loadedOf : Values → Setting → ℕ
@@ -39,38 +46,22 @@ abbrev pub settingsOf : Values → Settings
 settingsOf v = record { baud = loadedOf v Baud; accelerometer = loadedOf v Accelerometer; gyroscope = loadedOf v Gyroscope }
 
 -- A save puts its value in and keeps the others.
-abbrev pub valuesAfter : Option Setting → Settings → Values → Values
-valuesAfter none w v = v
-valuesAfter (some s) w v = withValue v s (workingValue w s)
+abbrev pub valuesAccess : ℕ → Access Values
+valuesAccess port = record { port = port; loaded = loadedOf; save = withValue }
 
 -- A message handled on the values kept.
-unfoldable pub reckonMessage : ℕ → Reckoned → Message → Outcome Reckoned
-reckonMessage port x m =
-    let c : Command = commandOf (m .good) (m .bytes) in
-    let e : Effect = effectOf (loadedOf (x .values)) (x .settings) c in
-    record {
-      reply = replyOf (loadedOf (x .values)) (x .settings) c;
-      saved = isSave (e .saves);
-      next = record { settings = e .settings; values = valuesAfter (e .saves) (x .settings) (x .values) };
-    }
+abbrev pub reckonMessage : ℕ → Reckoned → Message → Outcome Reckoned
+reckonMessage = handleOn valuesAccess
 
 -- ---- the board
 
 -- The working values, and the page.
-pub record Kept : Type 0 where
-  pub settings : Settings
-  pub page : List ℕ
+abbrev pub Kept : Type 0
+Kept = State (List ℕ)
 
 -- A message handled on them.
-unfoldable pub handleMessage : ℕ → Kept → Message → Outcome Kept
-handleMessage port x m =
-    let c : Command = commandOf (m .good) (m .bytes) in
-    let e : Effect = effectOf (loadedFrom (x .page)) (x .settings) c in
-    record {
-      reply = replyOf (loadedFrom (x .page)) (x .settings) c;
-      saved = isSave (e .saves);
-      next = record { settings = e .settings; page = pageAfter (e .saves) (x .settings) (x .page) };
-    }
+abbrev pub handleMessage : ℕ → Kept → Message → Outcome Kept
+handleMessage = handleOn pageAccess
 
 -- 17: a working value is not allowed; 19: the page is not 64 bytes; 20: it is neither blank nor sound.
 unfoldable pub keptTests : Kept → Tests
@@ -80,6 +71,6 @@ keptTests x = record { disallowed = not (settingsAllowed (x .settings)); wrongLe
 -- all values are allowed.
 pub record StoredAs (x : Reckoned) (y : Kept) : Type 0 where
   pub settings : x .settings ≡ y .settings
-  pub page : y .page ≡ writing (x .values)
+  pub page : y .page ≡ writing (x .page)
   pub settings-allowed : settingsAllowed (x .settings) ≡ true
-  pub values-allowed : allAllowed (x .values) ≡ true
+  pub values-allowed : allAllowed (x .page) ≡ true

@@ -1,5 +1,5 @@
 -- Document 01, "Sample lines": the P rows as a single table, with a single statement about what the rules give for it. Each
--- starts on a fresh board with a blank page, port 0, and a room of 16 bytes.
+-- starts on a fresh board with a blank page, port 0, and a room of 166 bytes.
 use mathlib.Core.Bool.{Bool, true, false}
 use mathlib.Core.List.{List, [], _∷_, _++_}
 use mathlib.Core.Path.{_≡_}
@@ -106,7 +106,7 @@ samples =
 
 abbrev callsWith : List (List ℕ) → List Call
 callsWith [] = []
-callsWith (c ∷ cs) = record { port = 0; chunk = c; room = replicate 16 0 } ∷ callsWith cs
+callsWith (c ∷ cs) = record { port = 0; chunk = c; room = replicate 166 0 } ∷ callsWith cs
 
 -- The reply stands at the room's front.
 abbrev replyIn : ℕ → List ℕ → List ℕ

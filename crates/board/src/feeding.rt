@@ -7,7 +7,7 @@ ghost use Prim.Native.Nat.{_+_, _-_, _≤_, _<_};
 ghost use Rattle.stream.specs.declared.Sought.the-variants.{Starved, Found};
 ghost use Rattle.stream.specs.Seek.{seek, resume, skippedBy};
 ghost use Rattle.message.specs.Front.{front};
-ghost use Rattle.command.specs.Command.{commandOf};
+ghost use Rattle.command.specs.Outcome.{receivedOf};
 ghost use Rattle.command.specs.Answer.{answering};
 ghost use Rattle.board.specs.Port.{heldBytes, padded};
 ghost use Rattle.board.specs.Feed.{feedNumber, leftOf, stepOf, inPlace, feedOn, feedOf, namedHeld, placeNumber, placeOf};
@@ -54,6 +54,7 @@ fn excess(x: usize, y: usize) -> usize
 // Answers the message that starts behind `k` bytes of the first `held` and then the chunk: it lies in what those leave of
 // both, whether it is held, straddles or is all in the chunk.
 fn answer_at(
+    port: u8,
     bytes: &[u8],
     held: usize,
     chunk: &[u8],
@@ -64,11 +65,19 @@ fn answer_at(
     page: &mut [u8],
 ) -> Answer
     requires { ⌜ (held ≤ length (now bytes)) × (k ≤ held + length (now chunk)) ⌝ }
-    ensures { λ r. ⌜ record { answer = r; room = now (room .exit); page = now (page .exit) } ≡ answering (commandOf good (drop k (take held (now (bytes .entry)) ++ now (chunk .entry)))) w (now (room .entry)) (now (page .entry)) ⌝ }
+    ensures { λ r. ⌜ record { answer = r; room = now (room .exit); page = now (page .exit) } ≡ answering port (receivedOf good (drop k (take held (now (bytes .entry)) ++ now (chunk .entry)))) w (now (room .entry)) (now (page .entry)) ⌝ }
 {
     let from = held - excess(held, k);
     let past = excess(k, held);
-    answer_over(&bytes[from..held], &chunk[past..], good, w, room, page)
+    answer_over(
+        port,
+        &bytes[from..held],
+        &chunk[past..],
+        good,
+        w,
+        room,
+        page,
+    )
 }
 
 // Where reading goes on after a message: behind a good one, one byte after the start of a damaged one.
@@ -135,6 +144,7 @@ fn step_starved(bytes: &mut [u8], held: usize, chunk: &[u8], k: usize, w: Settin
 
 // A step where a message is found: it is handled, and bytes are taken up to its end.
 fn step_found(
+    port: u8,
     bytes: &mut [u8],
     held: usize,
     chunk: &[u8],
@@ -147,11 +157,11 @@ fn step_found(
 ) -> Stepped
     requires { ⌜ (held ≤ 260) × (length (now bytes) ≡ 260) ⌝ }
     requires { ⌜ seek front (take held (now bytes) ++ now chunk) ≡ Found k n good ⌝ }
-    ensures { λ r. ⌜ record { step = r; bytes = now (bytes .exit); room = now (room .exit); page = now (page .exit) } ≡ inPlace (stepOf (take held (now (bytes .entry))) w (now (chunk .entry)) (now (room .entry)) (now (page .entry))) ⌝ }
+    ensures { λ r. ⌜ record { step = r; bytes = now (bytes .exit); room = now (room .exit); page = now (page .exit) } ≡ inPlace (stepOf port (take held (now (bytes .entry))) w (now (chunk .entry)) (now (room .entry)) (now (page .entry))) ⌝ }
 {
     let taken = excess(k + n, held);
     let skipped = skipped_with(k, good);
-    let a = answer_at(bytes, held, chunk, k, good, w, room, page);
+    let a = answer_at(port, bytes, held, chunk, k, good, w, room, page);
     let settings = a.settings;
     Stepped {
         number: 0,
@@ -165,6 +175,7 @@ fn step_found(
 
 // One accepted feed of a port, in its array.
 fn step(
+    port: u8,
     bytes: &mut [u8],
     held: usize,
     chunk: &[u8],
@@ -173,16 +184,28 @@ fn step(
     page: &mut [u8],
 ) -> Stepped
     requires { ⌜ (held ≤ 260) × (length (now bytes) ≡ 260) ⌝ }
-    ensures { λ r. ⌜ record { step = r; bytes = now (bytes .exit); room = now (room .exit); page = now (page .exit) } ≡ inPlace (stepOf (take held (now (bytes .entry))) w (now (chunk .entry)) (now (room .entry)) (now (page .entry))) ⌝ }
+    ensures { λ r. ⌜ record { step = r; bytes = now (bytes .exit); room = now (room .exit); page = now (page .exit) } ≡ inPlace (stepOf port (take held (now (bytes .entry))) w (now (chunk .entry)) (now (room .entry)) (now (page .entry))) ⌝ }
 {
     match seek_held(bytes, held, chunk) {
         Sought::Starved(k) => step_starved(bytes, held, chunk, k, w),
-        Sought::Found(k, n, good) => step_found(bytes, held, chunk, k, n, good, w, room, page),
+        Sought::Found(k, n, good) => step_found(
+            port,
+            bytes,
+            held,
+            chunk,
+            k,
+            n,
+            good,
+            w,
+            room,
+            page,
+        ),
     }
 }
 
 // The same in a port's own array.
 fn step_port(
+    port: u8,
     bytes: &mut [u8; 260],
     held: usize,
     chunk: &[u8],
@@ -191,9 +214,9 @@ fn step_port(
     page: &mut [u8],
 ) -> Stepped
     requires { ⌜ (held ≤ 260) × (length (now bytes) ≡ 260) ⌝ }
-    ensures { λ r. ⌜ record { step = r; bytes = now (bytes .exit); room = now (room .exit); page = now (page .exit) } ≡ inPlace (stepOf (take held (now (bytes .entry))) w (now (chunk .entry)) (now (room .entry)) (now (page .entry))) ⌝ }
+    ensures { λ r. ⌜ record { step = r; bytes = now (bytes .exit); room = now (room .exit); page = now (page .exit) } ≡ inPlace (stepOf port (take held (now (bytes .entry))) w (now (chunk .entry)) (now (room .entry)) (now (page .entry))) ⌝ }
 {
-    step(bytes, held, chunk, w, room, page)
+    step(port, bytes, held, chunk, w, room, page)
 }
 
 // The number of the first test that refuses a feed in place.
@@ -243,7 +266,7 @@ pub fn feed_in_place(
             settings: w,
         };
     }
-    step(bytes, held, chunk, w, room, page)
+    step(port, bytes, held, chunk, w, room, page)
 }
 
 fn held_of(port: u8, first: usize, second: usize) -> usize
@@ -253,13 +276,13 @@ fn held_of(port: u8, first: usize, second: usize) -> usize
 }
 
 // A feed of a sound board's first port, in its place: the second port is not touched.
-fn feed_first(mut board: Board, chunk: &[u8], room: &mut [u8], page: &mut [u8]) -> Fed
+fn feed_first(port: u8, mut board: Board, chunk: &[u8], room: &mut [u8], page: &mut [u8]) -> Fed
     requires { ⌜ board .first .held ≤ 260 ⌝ }
-    ensures { λ r. ⌜ record { answer = r; room = now (room .exit); page = now (page .exit) } ≡ feedOn (stepOf (heldBytes (board .first)) (board .settings) (now (chunk .entry)) (now (room .entry)) (now (page .entry))) 0 board ⌝ }
+    ensures { λ r. ⌜ record { answer = r; room = now (room .exit); page = now (page .exit) } ≡ feedOn (stepOf port (heldBytes (board .first)) (board .settings) (now (chunk .entry)) (now (room .entry)) (now (page .entry))) 0 board ⌝ }
 {
     let held = board.first.held;
     let w = board.settings;
-    let s = step_port(&mut board.first.bytes, held, chunk, w, room, page);
+    let s = step_port(port, &mut board.first.bytes, held, chunk, w, room, page);
     board.first.held = s.held;
     board.settings.baud = s.settings.baud;
     board.settings.accelerometer = s.settings.accelerometer;
@@ -274,13 +297,13 @@ fn feed_first(mut board: Board, chunk: &[u8], room: &mut [u8], page: &mut [u8]) 
 }
 
 // A feed of its second port: the first is not touched.
-fn feed_second(mut board: Board, chunk: &[u8], room: &mut [u8], page: &mut [u8]) -> Fed
+fn feed_second(port: u8, mut board: Board, chunk: &[u8], room: &mut [u8], page: &mut [u8]) -> Fed
     requires { ⌜ board .second .held ≤ 260 ⌝ }
-    ensures { λ r. ⌜ record { answer = r; room = now (room .exit); page = now (page .exit) } ≡ feedOn (stepOf (heldBytes (board .second)) (board .settings) (now (chunk .entry)) (now (room .entry)) (now (page .entry))) 1 board ⌝ }
+    ensures { λ r. ⌜ record { answer = r; room = now (room .exit); page = now (page .exit) } ≡ feedOn (stepOf port (heldBytes (board .second)) (board .settings) (now (chunk .entry)) (now (room .entry)) (now (page .entry))) 1 board ⌝ }
 {
     let held = board.second.held;
     let w = board.settings;
-    let s = step_port(&mut board.second.bytes, held, chunk, w, room, page);
+    let s = step_port(port, &mut board.second.bytes, held, chunk, w, room, page);
     board.second.held = s.held;
     board.settings.baud = s.settings.baud;
     board.settings.accelerometer = s.settings.accelerometer;
@@ -317,7 +340,7 @@ pub fn feed(port: u8, board: Board, chunk: &[u8], room: &mut [u8], page: &mut [u
         };
     }
     if port == 0 {
-        return feed_first(board, chunk, room, page);
+        return feed_first(port, board, chunk, room, page);
     }
-    feed_second(board, chunk, room, page)
+    feed_second(port, board, chunk, room, page)
 }

@@ -14,6 +14,7 @@ pub use flat::FlatField;
 pub use flat::FlatPage;
 pub use flat::FlatReply;
 pub use flat::FlatValues;
+pub use messages::ketphiroj_append_field;
 pub use messages::ketphiroj_check_message;
 pub use messages::ketphiroj_read_reply;
 pub use messages::ketphiroj_write_command;

@@ -1,8 +1,8 @@
-// Messages: the test of one, the plain writer, the command writer, the reply reader.
+// Messages: the test of one, the plain writer, the command writer, the writer of one field, the reply reader.
 ghost use mathlib.Core.Path.{_≡_};
 ghost use Rattle.message.specs.Whole.{wholeNumber};
 ghost use Rattle.message.specs.Write.{plainWriting};
-ghost use Rattle.client.specs.Writer.{commandWriting};
+ghost use Rattle.client.specs.Writer.{commandWriting, fieldWriting};
 ghost use Rattle.client.specs.Reader.{replyRead};
 ghost use Rattle.capi.specs.Flat.{flatReply};
 use crate::flat::FlatReply;
@@ -42,13 +42,31 @@ pub extern "C" fn ketphiroj_write_command(
     client::write_command(code, function, value, room)
 }
 
-// Reads a reply that is one whole message: number 0. 21: not one whole message; 22: wrong sums; 23: not a reply. All else
-// is 0 then.
+// Writes one field of a command of this type behind the first `length` bytes of `room`, a payload to be: number 0 and the payload's
+// length with it. Function 1 is written with the value, 2 to 5 without, Ping (type 1, code 2) without both. 28: the board does not
+// accept a command of this type with this field; 18: the room is too short. Nothing is written then, and the length is 0. The
+// payload, of at most 16 fields, is a command once `ketphiroj_write_message` has made a message of the same type of it.
 #[no_mangle]
-pub extern "C" fn ketphiroj_read_reply(message: &[u8]) -> FlatReply
-    ensures { λ r. ⌜ r ≡ flatReply (replyRead (now (message .entry))) ⌝ }
+pub extern "C" fn ketphiroj_append_field(
+    kind: u8,
+    code: u8,
+    function: u8,
+    value: u32,
+    length: usize,
+    room: &mut [u8],
+) -> Written
+    ensures { λ r. ⌜ record { answer = r; room = now (room .exit) } ≡ fieldWriting kind (record { code = code; function = function; value = value }) length (now (room .entry)) ⌝ }
 {
-    let reply = client::read_reply(message);
+    client::append_field(kind, code, function, value, length, room)
+}
+
+// Reads a row, counted from 0, of a reply that is one whole message: number 0. 21: not one whole message; 22: wrong sums; 23: not
+// a reply; 27: no row of that number. All else is 0 then.
+#[no_mangle]
+pub extern "C" fn ketphiroj_read_reply(message: &[u8], row: usize) -> FlatReply
+    ensures { λ r. ⌜ r ≡ flatReply (replyRead (now (message .entry)) row) ⌝ }
+{
+    let reply = client::read_reply(message, row);
     let value = reply.value;
     FlatReply {
         number: reply.number,

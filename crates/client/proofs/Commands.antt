@@ -1,52 +1,17 @@
--- The command of a message, from its type and payload.
-use Prim.Native.Nat.{ℕ, _%_, _≤_}
+-- What a type and a code are about, and back.
+use Prim.Native.Nat.{ℕ}
 use native.Mathlib.Omega.{arith}
-use mathlib.Core.Path.{_≡_, refl, ap, sym, _∙_}
+use mathlib.Core.Path.{_≡_, refl, _∙_}
 use mathlib.Core.Bool.{Bool, true, false}
-use mathlib.Core.List.{List}
 use lib.Dec.{eqb}
-use lib.ListN.{length, getD}
 use borrow.Author.Tests.{eqb-true}
-use Rattle.word.specs.Word.{word}
 use Rattle.page.specs.declared.setting.Setting.{Setting}
 use Rattle.page.specs.declared.setting.Setting.the-variants.{Baud, Accelerometer, Gyroscope}
 use Rattle.page.specs.declared.setting.Coded.{Coded}
 use Rattle.page.specs.declared.setting.Coded.the-variants.{Setting as Known, Nothing}
 use Rattle.page.specs.Settings.{settingOf, codeOf}
-use Rattle.message.specs.Message.{messageOf, typeOf, lengthOf, payloadOf}
-use Rattle.message.proofs.RoundTrips.{written-is-read}
-use Rattle.command.specs.declared.command.Command.{Command}
 use Rattle.command.specs.declared.command.Subject.the-variants.{Ping, Setting as About}
-use Rattle.command.specs.Command.{commandOf, subjectOf}
-
--- The command of a payload under a type.
-abbrev pub commandIn : ℕ → List ℕ → Command
-commandIn kind p =
-    record {
-      good = true;
-      kind = kind;
-      length = length p;
-      code = getD p 0 0;
-      size = getD p 1 0;
-      function = getD p 2 0;
-      first = getD p 3 0;
-      all = word (getD p 3 0) (getD p 4 0) (getD p 5 0) (getD p 6 0);
-    }
-
-pub command-in : (m : List ℕ) → lengthOf m ≡ length (payloadOf m) → commandOf true m ≡ commandIn (typeOf m) (payloadOf m)
-unfolding commandOf
-command-in m e = cc
-
-pub command-written : (kind : ℕ) (p : List ℕ) → length p ≤ 255 → commandOf true (messageOf kind p) ≡ commandIn kind p
-unfolding messageOf
-command-written kind p h =
-    let m : List ℕ = messageOf kind p in
-    let r = written-is-read kind p h in
-    let small : length p % 256 ≡ length p = omega arith in
-    let l : lengthOf m ≡ length (payloadOf m) = small ∙ sym (ap length (r .payload-back)) in
-    command-in m l ∙ ap (λ (q : List ℕ). commandIn kind q) (r .payload-back)
-
--- ---- codes
+use Rattle.command.specs.Command.{subjectOf}
 
 pub setting-back : (s : Setting) → settingOf (codeOf s) ≡ Known s
 unfolding settingOf
@@ -64,7 +29,6 @@ setting-code code s e = go (eqb code 0x01) refl (eqb code 0x07) refl (eqb code 0
     go false p false q true r = let h = eqb-true code 0x08 r in cc
     go false p false q false r = let z : _≡_ {A = ℕ} 0 1 = cc in absurd (omega arith)
 
--- What a type and a code are about, and back.
 pub about-back : (s : Setting) → subjectOf 0x02 (codeOf s) ≡ About s
 unfolding subjectOf
 about-back s = rw (setting-back s)

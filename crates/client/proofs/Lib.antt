@@ -1,7 +1,10 @@
+pub mod Asked
 pub mod Commands
 pub mod Obedience
 pub mod Readings
 pub mod Replies
+pub mod RowTurns
+pub mod Rows
 pub mod Tests
 pub mod Writings
 pub mod Written

@@ -1,224 +1,154 @@
 -- The reply reader, test by test.
 use Prim.Native.Nat.{ℕ, zero, suc, _+_, _-_, _≤_, _<_}
 use native.Mathlib.Omega.{arith}
-use mathlib.Core.Path.{_≡_, refl, ap, sym, _∙_}
-use mathlib.Core.Bool.{Bool, true, false, _&&_}
+use mathlib.Core.Path.{_≡_, refl, sym, _∙_}
+use mathlib.Core.Bool.{Bool, true, false, not}
 use mathlib.Core.List.{List, [], _∷_}
-use mir.Syntax.{w8}
-use mir.Val.{Fits}
-use lib.Dec.{eqb, leb}
-use lib.ListN.{length, take, drop, getD, length-drop}
-use lib.Seq.{take-length, take-all, getD-drop}
-use borrow.Author.Tests.{eq-eqb, ne-eqb, le-leb, lt-leb}
+use lib.Dec.{eqb}
+use lib.ListN.{length, take, drop, getD, length-take, length-drop}
+use lib.Seq.{take-length, take-all}
+use borrow.Author.Tests.{eq-eqb, ne-eqb, le-leb, lt-leb, lt-ltb, le-ltb}
 use Rattle.word.specs.Word.{number}
 use Rattle.page.specs.declared.setting.Setting.{Setting}
 use Rattle.page.specs.declared.setting.Coded.{Coded}
 use Rattle.page.specs.declared.setting.Coded.the-variants.{Setting as Known, Nothing}
 use Rattle.page.specs.declared.setting.Stored.{Stored}
 use Rattle.page.specs.declared.setting.Stored.the-variants.{Absent, Value}
-use Rattle.page.specs.Settings.{settingOf, codeOf, allowed, valueBytes, valueSize}
-use Rattle.page.specs.Sound.{same}
+use Rattle.page.specs.Settings.{settingOf, codeOf, valueSize, allowed}
+use Rattle.message.specs.Fields.{fieldsOf}
 use Rattle.message.specs.Message.{lengthOf}
 use Rattle.message.specs.Whole.{wholeNumber}
 use Rattle.message.proofs.RoundTrips.{passed}
-use Rattle.command.specs.Effects.{valueRow}
 use Rattle.client.specs.declared.reader.Reply.{Reply}
-use Rattle.client.specs.Reader.{replyRow, echoIn, errorIn, isPlain, valueIn, noReply, valuedReply, moreOn, replyOn, wholeOn, replyRead}
-use Rattle.client.specs.Rows.{rowValue, codedValue, moreIf, moreReply}
-use Rattle.page.proofs.Pages.{same-eq, same-refl}
-use Rattle.client.proofs.Tests.{value-length, size-small, value-written}
-use Rattle.client.proofs.Commands.{setting-code}
+use Rattle.client.specs.Reader.{noReply, rowsIn, rowRead, rowsWrong, rowsRead, wholeOn, replyRead}
+use Rattle.client.specs.Rows.{startsWithValue, valueFieldSize, rowSize, rowIn}
+use Rattle.client.proofs.Tests.{size-small}
 
 -- The part from a place to the end.
-rest-part : (l : List ℕ) (i : ℕ) → take (length l - i) (drop i l) ≡ drop i l
+pub rest-part : (l : List ℕ) (i : ℕ) → take (length l - i) (drop i l) ≡ drop i l
 rest-part l i = rw (← length-drop i l) (take-length (drop i l))
 
--- A failed test, and no value.
-and-false : (a : Bool) → a && false ≡ false
-and-false true = refl
-and-false false = refl
+-- ---- the number of rows
 
--- Rows that are not equal.
-not-same : (xs ys : List ℕ) → (xs ≡ ys → ⊥) → same xs ys ≡ false
-not-same xs ys n = go (same xs ys) refl
-  where
-    go : (t : Bool) → same xs ys ≡ t → t ≡ false
-    go true e = absurd (n (same-eq xs ys e))
-    go false e = refl
+module _ (kind n : ℕ) where
+  pub wrong-none : n ≡ 0 → true ≡ rowsWrong kind n
+  wrong-none e = rw e
 
--- ---- the value in a setting's field
+  pub wrong-many : (n ≡ 0 → ⊥) → 16 < n → true ≡ rowsWrong kind n
+  wrong-many z h = rw (ne-eqb n 0 z, lt-ltb 16 n h)
 
-row-two : (row : List ℕ) → 2 ≤ length row → row ≡ getD row 0 0 ∷ getD row 1 0 ∷ drop 2 row
-row-two [] l = absurd (omega arith)
-row-two (a ∷ []) l = absurd (omega arith)
-row-two (a ∷ b ∷ row) l = refl
+  pub wrong-one : n ≡ 1 → false ≡ rowsWrong kind n
+  wrong-one e = rw e
 
-module _ (s : Setting) (row : List ℕ) where
-  no-row : ((x : ℕ) → row ≡ valueRow s x → ⊥) → Absent ≡ rowValue s row
-  unfolding rowValue
-  no-row n =
-      let x : ℕ = number (drop 2 row) in
-      rw (not-same row (valueRow s x) (n x), and-false (allowed s x))
+  module _ (z : n ≡ 0 → ⊥) (h : n ≤ 16) (o : n ≡ 1 → ⊥) where
+    pub wrong-first : kind ≡ 0x01 → false ≡ rowsWrong kind n
+    wrong-first k = rw (ne-eqb n 0 z, le-ltb 16 n h, lt-ltb 1 n (omega arith), k)
 
-  module _ (n : ℕ) (z : n ≡ valueSize s) where
-    pub row-length : (length row ≡ n + 2 → ⊥) → Absent ≡ rowValue s row
-    row-length h = no-row (λ x e. h (ap length e ∙ omega (arith, value-length s x)))
+    pub wrong-kind : (kind ≡ 0x01 → ⊥) → not (eqb kind 0x02) ≡ rowsWrong kind n
+    wrong-kind k = rw (ne-eqb n 0 z, le-ltb 16 n h, lt-ltb 1 n (omega arith), ne-eqb kind 0x01 k)
 
-    module _ (k : ℕ) (c : k ≡ codeOf s) where
-      pub row-code : (getD row 0 0 ≡ k → ⊥) → Absent ≡ rowValue s row
-      row-code h = no-row (λ x e. h (ap (λ (l : List ℕ). getD l 0 0) e ∙ sym c))
+-- ---- what a row says
 
-      module _ (w : ℕ) (o : w ≡ getD row 1 0) where
-        pub row-size : (w ≡ n → ⊥) → Absent ≡ rowValue s row
-        row-size h = no-row (λ x e. h (o ∙ ap (λ (l : List ℕ). getD l 1 0) e ∙ sym z))
+module _ (row : List ℕ) where
+  pub value-there : length row ≤ 10 → 6 < length row → (x : ℕ) → x ≡ number (take 4 (take (length row - 6) (drop 6 row))) → Value x ≡ rowIn row .value
+  unfolding rowIn
+  value-there l h x e = rw (lt-ltb 6 (length row) h, e, rest-part row 6, take-all 4 (drop 6 row) (rw length-drop (omega arith)))
 
-        module _ (l : length row ≡ n + 2) (x : ℕ) (t : x ≡ number (take 4 (take (length row - 2) (drop 2 row)))) (a : Bool) (p : a ≡ allowed s x) where
-          x-is : x ≡ number (drop 2 row)
-          x-is = t ∙ rw (rest-part row 2, take-all 4 (drop 2 row) (rw length-drop (omega (arith, size-small s))))
+  pub value-absent : length row ≤ 6 → Absent ≡ rowIn row .value
+  unfolding rowIn
+  value-absent h = rw (le-ltb 6 (length row) h)
 
-          pub row-refused : a ≡ false → Absent ≡ rowValue s row
-          unfolding rowValue
-          row-refused e =
-              let q : allowed s x ≡ false = sym p ∙ e in
-              rw (← x-is, q)
+  pub row-told : (kind : ℕ) (v : Stored) → v ≡ rowIn row .value
+      → record { number = 0; kind = kind; echo = getD row 2 0; error = getD row 3 0; value = v } ≡ rowRead kind (rowIn row ∷ []) 0
+  unfolding rowIn
+  row-told kind v e = cc
 
-          module _ (f : getD row 0 0 ≡ k) (g : w ≡ n) (b : (i : ℕ) → Fits w8 (getD row i 0)) where
-            row-is : row ≡ valueRow s x
-            row-is =
-                let q : (i : ℕ) → getD (drop 2 row) i 0 < 256 = λ i. omega (arith, getD-drop 2 row i 0, b (2 + i)) in
-                let v : valueBytes s (number (drop 2 row)) ≡ drop 2 row = value-written s (drop 2 row) q (rw length-drop (omega arith)) in
-                let d : row ≡ getD row 0 0 ∷ getD row 1 0 ∷ drop 2 row = row-two row (omega arith) in
-                d ∙ rw (← v, ← x-is, f, c, ← o, g, z)
+-- ---- a setting's field at the front
 
-            pub row-value : a ≡ true → Value x ≡ rowValue s row
-            unfolding rowValue
-            row-value e =
-                let q : allowed s x ≡ true = sym p ∙ e in
-                let r : same row (valueRow s x) ≡ true = rw (← row-is) (same-refl row) in
-                rw (← x-is, q, r)
+module _ (s : Setting) (bs : List ℕ) (n : ℕ) (z : n ≡ valueSize s) where
+  pub front-short : length bs < n + 2 → false ≡ startsWithValue s bs
+  unfolding startsWithValue
+  front-short h = rw (lt-leb (valueSize s + 2) (length bs) (omega arith))
 
--- ---- one more field
+  module _ (l : n + 2 ≤ length bs) (k : ℕ) (c : k ≡ codeOf s) where
+    pub front-code : (getD bs 0 0 ≡ k → ⊥) → false ≡ startsWithValue s bs
+    unfolding startsWithValue
+    front-code h = rw (le-leb (valueSize s + 2) (length bs) (omega arith), ne-eqb (getD bs 0 0) (codeOf s) (λ e. h (e ∙ sym c)))
 
-module _ (kind echo error : ℕ) (row : List ℕ) where
-  module _ (r : Reply) (z : r ≡ noReply 23) where
-    pub more-kind : (kind ≡ 0x02 → ⊥) → r ≡ moreReply kind echo error row
-    unfolding moreReply
-    more-kind n = rw (z, ne-eqb kind 0x02 n)
+    module _ (f : getD bs 0 0 ≡ k) (w : ℕ) (o : w ≡ getD bs 1 0) where
+      pub front-size : (w ≡ n → ⊥) → false ≡ startsWithValue s bs
+      unfolding startsWithValue
+      front-size h =
+          rw (le-leb (valueSize s + 2) (length bs) (omega arith), eq-eqb (getD bs 0 0) (codeOf s) (f ∙ c), ne-eqb (getD bs 1 0) (valueSize s) (λ e. h (o ∙ e ∙ sym z)))
 
-    pub more-error : kind ≡ 0x02 → (error ≡ 0 → ⊥) → r ≡ moreReply kind echo error row
-    unfolding moreReply
-    more-error k n = rw (z, k, ne-eqb error 0 n)
+      pub front-value : w ≡ n → (x : ℕ) → x ≡ number (take 4 (take (n + 2 - 2) (drop 2 bs))) → (a : Bool) → a ≡ allowed s x → a ≡ startsWithValue s bs
+      unfolding startsWithValue
+      front-value g x t a p =
+          let m : n + 2 - 2 ≡ valueSize s = omega arith in
+          let q : take 4 (take (n + 2 - 2) (drop 2 bs)) ≡ take (valueSize s) (drop 2 bs) =
+          rw m (take-all 4 (take (valueSize s) (drop 2 bs)) (rw length-take (omega (arith, size-small s)))) in
+          rw (p, t, q, le-leb (valueSize s + 2) (length bs) (omega arith), eq-eqb (getD bs 0 0) (codeOf s) (f ∙ c), eq-eqb (getD bs 1 0) (valueSize s) (sym o ∙ g ∙ z))
 
-    pub more-unknown : kind ≡ 0x02 → error ≡ 0 → (x : Coded) → x ≡ settingOf echo → x ≡ Nothing → r ≡ moreReply kind echo error row
-    unfolding moreReply
-    more-unknown k e x c u = rw (z, k, e, ← c, u)
+-- ---- the field that adds a value
 
-    pub more-absent : kind ≡ 0x02 → error ≡ 0 → (x : Coded) → x ≡ settingOf echo → (s : Setting) → x ≡ Known s
-        → (y : Stored) → y ≡ rowValue s row → y ≡ Absent → r ≡ moreReply kind echo error row
-    unfolding moreReply
-    more-absent k e x c s u y d a = rw (z, k, e, ← c, u, ← d, a)
+module _ (kind echo error : ℕ) (bs : List ℕ) where
+  pub field-kind : (kind ≡ 0x02 → ⊥) → 0 ≡ valueFieldSize kind echo error bs
+  unfolding valueFieldSize
+  field-kind n = rw (ne-eqb kind 0x02 n)
 
-  pub more-value : kind ≡ 0x02 → error ≡ 0 → (x : Coded) → x ≡ settingOf echo → (s : Setting) → x ≡ Known s
-      → (y : Stored) → y ≡ rowValue s row → (v : ℕ) → y ≡ Value v
-      → record { number = 0; kind = kind; echo = echo; error = error; value = Value v } ≡ moreReply kind echo error row
-  unfolding moreReply
-  more-value k e x c s u y d v a = rw (k, e, ← c, u, ← d, a)
+  module _ (k : kind ≡ 0x02) where
+    pub field-error : (error ≡ 0 → ⊥) → 0 ≡ valueFieldSize kind echo error bs
+    unfolding valueFieldSize
+    field-error n = rw (k, ne-eqb error 0 n)
 
--- ---- a payload
+    module _ (e : error ≡ 0) (x : Coded) (c : x ≡ settingOf echo) where
+      pub field-unknown : x ≡ Nothing → 0 ≡ valueFieldSize kind echo error bs
+      unfolding valueFieldSize
+      field-unknown u = rw (k, e, ← c, u)
 
-module _ (kind : ℕ) (p : List ℕ) where
-  no-value : (x : Coded) → ((s : Setting) (v : ℕ) → p ≡ 0x80 ∷ 0x02 ∷ codeOf s ∷ 0 ∷ valueRow s v → ⊥) → valueIn x p ≡ Absent
-  unfolding valueIn
-  no-value Nothing n = refl
-  no-value (Known s) n =
-      let x : ℕ = number (drop 6 p) in
-      rw (not-same p (0x80 ∷ 0x02 ∷ codeOf s ∷ 0 ∷ valueRow s x) (n s x), and-false (allowed s x))
+      module _ (s : Setting) (u : x ≡ Known s) (b : Bool) (q : b ≡ startsWithValue s bs) where
+        pub field-none : b ≡ false → 0 ≡ valueFieldSize kind echo error bs
+        unfolding valueFieldSize
+        field-none f = rw (k, e, ← c, u, ← q, f)
 
-  -- What is not plain and carries no value is no reply.
-  no-more : isPlain p ≡ false → ((s : Setting) (v : ℕ) → p ≡ 0x80 ∷ 0x02 ∷ codeOf s ∷ 0 ∷ valueRow s v → ⊥) → noReply 23 ≡ replyOn (isPlain p) kind p
-  no-more q n = rw q (go (eqb kind 0x02))
-    where
-      go : (t : Bool) → noReply 23 ≡ moreOn t kind p
-      go true = rw (no-value (settingOf (echoIn p)) n)
-      go false = refl
+        pub field-value : b ≡ true → (n : ℕ) → n ≡ valueSize s → n + 2 ≡ valueFieldSize kind echo error bs
+        unfolding valueFieldSize
+        field-value t n z = rw (k, e, ← c, u, ← q, t, z)
 
-  not-plain : (p ≡ replyRow (echoIn p) (errorIn p) → ⊥) → isPlain p ≡ false
-  unfolding isPlain
-  not-plain n = rw (not-same p (replyRow (echoIn p) (errorIn p)) n, and-false (leb (errorIn p) 4))
+-- ---- a row at the front
 
-  module _ (r : Reply) (z : r ≡ noReply 23) where
-    pub payload-short : length p < 4 → r ≡ replyOn (isPlain p) kind p
-    payload-short h =
-        z ∙ no-more (not-plain (λ e. omega (arith, ap length e))) (λ s v e. omega (arith, ap length e))
+module _ (kind : ℕ) (bs : List ℕ) where
+  pub row-short : length bs < 4 → 0 ≡ rowSize kind bs
+  unfolding rowSize
+  row-short h = rw (lt-leb 4 (length bs) h)
 
-    pub payload-first : (getD p 0 0 ≡ 0x80 → ⊥) → r ≡ replyOn (isPlain p) kind p
-    payload-first h =
-        let first : List ℕ → ℕ = λ l. getD l 0 0 in
-        z ∙ no-more (not-plain (λ e. h (ap first e))) (λ s v e. h (ap first e))
+  module _ (l : 4 ≤ length bs) where
+    pub row-code : (getD bs 0 0 ≡ 0x80 → ⊥) → 0 ≡ rowSize kind bs
+    unfolding rowSize
+    row-code h = rw (le-leb 4 (length bs) l, ne-eqb (getD bs 0 0) 0x80 h)
 
-    pub payload-second : (getD p 1 0 ≡ 0x02 → ⊥) → r ≡ replyOn (isPlain p) kind p
-    payload-second h =
-        let second : List ℕ → ℕ = λ l. getD l 1 0 in
-        z ∙ no-more (not-plain (λ e. h (ap second e))) (λ s v e. h (ap second e))
+    module _ (f : getD bs 0 0 ≡ 0x80) where
+      pub row-two : (getD bs 1 0 ≡ 0x02 → ⊥) → 0 ≡ rowSize kind bs
+      unfolding rowSize
+      row-two h = rw (le-leb 4 (length bs) l, f, ne-eqb (getD bs 1 0) 0x02 h)
 
-    pub payload-error : length p ≤ 4 → 4 < getD p 3 0 → r ≡ replyOn (isPlain p) kind p
-    unfolding isPlain
-    payload-error l h =
-        z ∙ no-more (rw (lt-leb (getD p 3 0) 4 h)) (λ s v e. omega (arith, ap length e))
+      module _ (g : getD bs 1 0 ≡ 0x02) where
+        pub row-error : 4 < getD bs 3 0 → 0 ≡ rowSize kind bs
+        unfolding rowSize
+        row-error h = rw (le-leb 4 (length bs) l, f, g, lt-leb (getD bs 3 0) 4 h)
 
-  pub payload-plain : 4 ≤ length p → getD p 0 0 ≡ 0x80 → getD p 1 0 ≡ 0x02 → length p ≤ 4 → getD p 3 0 ≤ 4
-      → record { number = 0; kind = kind; echo = getD p 2 0; error = getD p 3 0; value = Absent } ≡ replyOn (isPlain p) kind p
-  unfolding isPlain
-  payload-plain l f s h e =
-      let q : same p (replyRow (echoIn p) (errorIn p)) ≡ true = rw (← row-is) (same-refl p) in
-      rw (le-leb (getD p 3 0) 4 e, q)
-    where
-      four : (p : List ℕ) → length p ≡ 4 → p ≡ getD p 0 0 ∷ getD p 1 0 ∷ getD p 2 0 ∷ getD p 3 0 ∷ []
-      four [] l = absurd (omega arith)
-      four (a ∷ []) l = absurd (omega arith)
-      four (a ∷ b ∷ []) l = absurd (omega arith)
-      four (a ∷ b ∷ c ∷ []) l = absurd (omega arith)
-      four (a ∷ b ∷ c ∷ d ∷ []) l = refl
-      four (a ∷ b ∷ c ∷ d ∷ x ∷ p) l = absurd (omega arith)
-
-      row-is : p ≡ replyRow (echoIn p) (errorIn p)
-      row-is = four p (omega arith) ∙ rw (f, s)
-
--- One more field behind the field 80.
-more-is : (kind echo error b : ℕ) (bs : List ℕ) (t : Bool) (x : Coded) → settingOf echo ≡ x → (d : Bool) → eqb error 0 ≡ d
-    → moreIf (t && d) (valuedReply (codedValue x (b ∷ bs)) kind echo)
-    ≡ moreOn t kind (0x80 ∷ 0x02 ∷ echo ∷ error ∷ b ∷ bs)
-unfolding valueIn rowValue
-more-is kind echo error b bs false x c d e = refl
-more-is kind echo error b bs true Nothing c true e = rw c
-more-is kind echo error b bs true Nothing c false e = rw c
-more-is kind echo error b bs true (Known s) c true e = rw (c, e, eq-eqb echo (codeOf s) (setting-code echo s c))
-more-is kind echo error b bs true (Known s) c false e = rw (c, e, eq-eqb echo (codeOf s) (setting-code echo s c), and-false (allowed s (number (drop 1 bs))))
-
-more-payload : (kind : ℕ) (p : List ℕ) → 4 < length p → getD p 0 0 ≡ 0x80 → getD p 1 0 ≡ 0x02
-    → moreReply kind (getD p 2 0) (getD p 3 0) (drop 4 p) ≡ replyOn (isPlain p) kind p
-unfolding moreReply
-more-payload kind [] l f s = absurd (omega arith)
-more-payload kind (a ∷ []) l f s = absurd (omega arith)
-more-payload kind (a ∷ b ∷ []) l f s = absurd (omega arith)
-more-payload kind (a ∷ b ∷ c ∷ []) l f s = absurd (omega arith)
-more-payload kind (a ∷ b ∷ c ∷ d ∷ []) l f s = absurd (omega arith)
-more-payload kind (a ∷ b ∷ c ∷ d ∷ x ∷ xs) l f s =
-    let n = not-plain kind (a ∷ b ∷ c ∷ d ∷ x ∷ xs) (λ e. omega (arith, ap length e)) in
-    rw (n, f, s) (more-is kind c d x xs (eqb kind 0x02) (settingOf c) refl (eqb d 0) refl)
-
-pub payload-more : (kind : ℕ) (p : List ℕ) → 4 < length p → getD p 0 0 ≡ 0x80 → getD p 1 0 ≡ 0x02
-    → (r : Reply) → r ≡ moreReply kind (getD p 2 0) (getD p 3 0) (take (length p - 4) (drop 4 p)) → r ≡ replyOn (isPlain p) kind p
-payload-more kind p l f s r e = e ∙ rw (rest-part p 4) (more-payload kind p l f s)
+        pub row-there : getD bs 3 0 ≤ 4 → (m : ℕ) → m ≡ valueFieldSize kind (getD bs 2 0) (getD bs 3 0) (take (length bs - 4) (drop 4 bs)) → 4 + m ≡ rowSize kind bs
+        unfolding rowSize
+        row-there h m e = rw (le-leb 4 (length bs) l, f, g, le-leb (getD bs 3 0) 4 h, e, rest-part bs 4)
 
 -- ---- a message
 
 module _ (m : List ℕ) (n : ℕ) (e : n ≡ wholeNumber m) where
-  pub read-refused : (n ≡ 0 → ⊥) → (r : Reply) → r ≡ noReply n → r ≡ replyRead m
+  pub read-refused : (n ≡ 0 → ⊥) → (k : ℕ) (r : Reply) → r ≡ noReply n → r ≡ replyRead m k
   unfolding replyRead
-  read-refused z r h = h ∙ go n z ∙ rw (← e)
+  read-refused z k r h = h ∙ go n z ∙ rw (← e)
     where
-      go : (n : ℕ) → (n ≡ 0 → ⊥) → noReply n ≡ wholeOn n m
+      go : (n : ℕ) → (n ≡ 0 → ⊥) → noReply n ≡ wholeOn n m k
       go zero z = absurd (z refl)
       go (suc n) z = refl
 
@@ -233,9 +163,12 @@ module _ (m : List ℕ) (n : ℕ) (e : n ≡ wholeNumber m) where
     pub read-header : 4 ≤ length m - 2
     read-header = omega (arith, passed m (sym e ∙ z) .long)
 
-    pub read-passed : (r : Reply) → r ≡ replyOn (isPlain (take (length m - 2 - 4) (drop 4 m))) (getD m 2 0) (take (length m - 2 - 4) (drop 4 m)) → r ≡ replyRead m
+    pub read-most : length (take (length m - 2 - 4) (drop 4 m)) ≤ 255
+    read-most = rw length-take (omega (arith, passed m (sym e ∙ z) .sized))
+
+    pub read-passed : (k : ℕ) (r : Reply) → r ≡ rowsRead (getD m 2 0) (rowsIn (getD m 2 0) (fieldsOf (take (length m - 2 - 4) (drop 4 m)))) k → r ≡ replyRead m k
     unfolding replyRead
-    read-passed r h =
+    read-passed k r h =
         let w = passed m (sym e ∙ z) in
-        let k : length m - 2 - 4 ≡ lengthOf m = omega (arith, w .sized) in
-        h ∙ rw (← e, z, k)
+        let q : length m - 2 - 4 ≡ lengthOf m = omega (arith, w .sized) in
+        h ∙ rw (← e, z, q)

@@ -1,113 +1,222 @@
--- Every reply that handling writes is read back.
+-- Every reply that handling writes is read back, row by row.
 use Prim.Native.Nat.{ℕ, zero, suc, _≤_}
 use native.Mathlib.Omega.{arith}
-use mathlib.Core.Path.{_≡_, refl, _∙_}
-use mathlib.Core.Bool.{true, false, _&&_}
-use mathlib.Core.List.{List, [], _∷_}
-use lib.Dec.{eqb}
-use lib.ListN.{length}
-use borrow.Author.Tests.{eq-eqb, ne-eqb, le-leb}
-use Rattle.word.specs.Word.{number}
+use mathlib.Core.Path.{_≡_, refl, ap, _∙_}
+use mathlib.Core.Bool.{Bool, true, false, _&&_, not}
+use mathlib.Core.List.{List, [], _∷_, _++_}
+use mathlib.Core.Option.{some}
+use lib.Dec.{eqb, ltb}
+use lib.ListN.{length, take, getD}
+use lib.Seq.{take-at}
+use borrow.Author.Tests.{eq-eqb, ne-eqb, le-leb, le-ltb}
 use Rattle.page.specs.declared.setting.Setting.{Setting}
 use Rattle.page.specs.declared.setting.Setting.the-variants.{Baud, Accelerometer, Gyroscope}
-use Rattle.page.specs.declared.setting.Stored.{Stored}
+use Rattle.page.specs.declared.setting.Coded.{Coded}
+use Rattle.page.specs.declared.setting.Coded.the-variants.{Setting as Known, Nothing}
 use Rattle.page.specs.declared.setting.Stored.the-variants.{Absent, Value}
-use Rattle.page.specs.Settings.{codeOf, allowed, valueBytes, valueSize}
+use Rattle.page.specs.Settings.{settingOf, codeOf, valueSize, allowed, valueBytes}
+use Rattle.message.specs.Fields.{Field, fieldsPast, fieldsOf}
 use Rattle.message.specs.Message.{messageOf}
+use Rattle.message.specs.Whole.{refuse}
+use Rattle.message.proofs.FieldRows.{past-all}
 use Rattle.message.proofs.RoundTrips.{written-is-read}
-use Rattle.command.specs.declared.settings.Settings.{Settings}
+use Rattle.message.proofs.Writes.{message-length}
 use Rattle.command.specs.declared.command.Command.{Command}
 use Rattle.command.specs.declared.command.Subject.{Subject}
 use Rattle.command.specs.declared.command.Subject.the-variants.{Ping, Setting as About, Unknown}
-use Rattle.command.specs.Command.{subjectOf}
-use Rattle.command.specs.Errors.{errorOf}
-use Rattle.command.specs.Effects.{valueRow, workingValue, effectOf, replyPayload, replyOf, settingsAllowed}
-use Rattle.client.specs.Reader.{isPlain, valueIn, replyOn, replyRead}
-use Rattle.client.specs.Theorems.{reported, RepliesRead}
-use Rattle.stream.proofs.Bools.{and-both}
-use Rattle.page.proofs.Pages.{same-refl}
-use Rattle.client.proofs.Tests.{value-back}
-use Rattle.client.proofs.Commands.{subject-about, setting-back}
+use Rattle.command.specs.Command.{commandOf, commandsOf, subjectOf}
+use Rattle.command.specs.Errors.{fieldError, messageError, fieldsRefused, isKind}
+use Rattle.command.specs.Effects.{workingValue, valueRow, effectOf}
+use Rattle.command.specs.Outcome.{State, Received, fieldsIn, fieldOutcome, fieldsOutcome, messageOn, messageOutcome}
+use Rattle.command.specs.Answer.{loadedFrom, pageAccess}
 use Rattle.command.proofs.Accepts.{error-most}
+use Rattle.command.proofs.Keeps.{value-allowed}
+use Rattle.command.proofs.Pages.{Sound, field-goes}
+use Rattle.command.proofs.Separate.{longest-reply}
+use Rattle.command.proofs.Tests.{message-passed, fields-some}
+use Rattle.client.specs.Reader.{Row, valueIn, valueIf, valueAfter, rowsOf, rowsIn, rowRead, rowsWrong, rowsRead, replyRead}
+use Rattle.client.specs.Replies.{reported, fieldRows, messageRowsOn, RepliesRead}
+use Rattle.client.proofs.Tests.{value-back, value-length}
+use Rattle.client.proofs.Commands.{setting-back, subject-about}
+use Rattle.client.proofs.Rows.{rowField}
 
--- A message with a payload is read by its type and payload.
-message-read : (kind : ℕ) (p : List ℕ) → length p ≤ 255 → replyRead (messageOf kind p) ≡ replyOn (isPlain p) kind p
+-- ---- bytes that are rows
+
+-- No fields, or a field 80 first: no value for a row before them.
+abbrev Starts : List Field → Type 0
+Starts [] = Unit {0}
+Starts (g ∷ gs) = g .code ≡ 0x80
+
+-- Bytes whose fields are these rows.
+record Told (kind : ℕ) (bs : List ℕ) (rs : List Row) : Type 0 where
+  pub fields : List Field
+  pub are : fieldsPast 0 bs ≡ some fields
+  pub start : Starts fields
+  pub rows : rowsOf kind fields ≡ some rs
+
+no-told : (kind : ℕ) → Told kind [] []
+unfolding rowsOf
+no-told kind = record { fields = []; are = refl; start = tt; rows = refl }
+
+-- A field 80 adds no value to a row before it.
+next-row : (kind echo error : ℕ) (g : Field) → g .code ≡ 0x80 → valueAfter kind (rowField echo error) g ≡ Absent
+unfolding valueAfter
+next-row kind echo error g e = go (eqb kind 0x02 && eqb error 0) (settingOf echo)
+  where
+    known : (s : Setting) → eqb 0x80 (codeOf s) ≡ false
+    known Baud = refl
+    known Accelerometer = refl
+    known Gyroscope = refl
+
+    go : (t : Bool) (c : Coded) → valueIf t (valueIn c g) ≡ Absent
+    go true Nothing = refl
+    go true (Known s) = rw (e, known s)
+    go false c = refl
+
+-- One row more in front, without a value.
+plain-told : (kind echo error : ℕ) → error ≤ 4 → (bs : List ℕ) (rs : List Row) → Told kind bs rs
+    → Told kind (0x80 ∷ 0x02 ∷ echo ∷ error ∷ bs) (record { echo = echo; error = error; value = Absent } ∷ rs)
+unfolding rowsOf
+plain-told kind echo error h bs rs t =
+    record { fields = rowField echo error ∷ t .fields; are = rw (t .are); start = refl; rows = go (t .fields) (t .start) (t .rows) }
+  where
+    go : (fs : List Field) → Starts fs → rowsOf kind fs ≡ some rs
+        → rowsOf kind (rowField echo error ∷ fs) ≡ some (record { echo = echo; error = error; value = Absent } ∷ rs)
+    go [] s e = let q : rs ≡ [] = cc in rw (le-leb error 4 h, q)
+    go (g ∷ fs) s e = rw (le-leb error 4 h, next-row kind echo error g s, e)
+
+-- One row more, with a setting's value.
+value-told : (s : Setting) (x : ℕ) → allowed s x ≡ true → (bs : List ℕ) (rs : List Row) → Told 0x02 bs rs
+    → Told 0x02 (0x80 ∷ 0x02 ∷ codeOf s ∷ 0 ∷ (valueRow s x ++ bs)) (record { echo = codeOf s; error = 0; value = Value x } ∷ rs)
+unfolding rowsOf valueAfter
+value-told s x a bs rs t =
+    let l : length (valueBytes s x) ≡ valueSize s = value-length s x in
+    let c : take (valueSize s) (valueBytes s x ++ bs) ≡ valueBytes s x = take-at (valueBytes s x) bs (valueSize s) l in
+    let p : fieldsPast (valueSize s) (valueBytes s x ++ bs) ≡ some (t .fields) = rw (← l) (past-all (valueBytes s x) bs ∙ t .are) in
+    let e : eqb (codeOf s) (codeOf s) ≡ true = eq-eqb (codeOf s) (codeOf s) refl in
+    let z : eqb (valueSize s) (valueSize s) ≡ true = eq-eqb (valueSize s) (valueSize s) refl in
+    record {
+      fields = rowField (codeOf s) 0 ∷ record { code = codeOf s; size = valueSize s; content = valueBytes s x } ∷ t .fields;
+      are = rw (p, c);
+      start = refl;
+      rows = rw (setting-back s, e, z, value-back s x a, a, t .rows);
+    }
+
+-- ---- one field
+
+module _ (port : ℕ) (x : State (List ℕ)) (ok : Sound x) (c : Command) (bs : List ℕ) (rs : List Row) (t : Told (c .kind) bs rs) where
+  -- The rows of a field, and those behind them.
+  FieldTold : Type 0
+  FieldTold = Told (c .kind) (fieldOutcome (pageAccess port) x c .rows ++ bs) (record { echo = c .code; error = fieldError c; value = reported c (x .settings) } ∷ rs)
+
+  -- A field that reports nothing has the plain row.
+  silent : effectOf (loadedFrom (x .page)) (x .settings) c .row ≡ [] → reported c (x .settings) ≡ Absent → FieldTold
+  unfolding FieldTold fieldOutcome
+  silent r v = rw (r, v) (plain-told (c .kind) (c .code) (fieldError c) (error-most c) bs rs t)
+
+  about-told : (s : Setting) → subjectOf (c .kind) (c .code) ≡ About s → fieldError c ≡ 0 → (f : ℕ) → c .function ≡ f → FieldTold
+  unfolding FieldTold fieldOutcome effectOf
+  about-told s e n zero f = silent (rw (n, e, f)) (rw (n, e, f))
+  about-told s e n (suc zero) f = silent (rw (n, e, f)) (rw (n, e, f))
+  about-told s e n (suc (suc zero)) f =
+      let k = subject-about (c .kind) (c .code) s e in
+      let u : Told 0x02 bs rs = rw (k .0) at t in
+      rw (n, e, f, k .0, k .1) (value-told s (workingValue (x .settings) s) (value-allowed (x .settings) s (ok .settings)) bs rs u)
+  about-told s e n (suc (suc (suc zero))) f = silent (rw (n, e, f)) (rw (n, e, f))
+  about-told s e n (suc (suc (suc (suc zero)))) f = silent (rw (n, e, f)) (rw (n, e, f))
+  about-told s e n (suc (suc (suc (suc (suc g))))) f =
+      let d : eqb (suc (suc (suc (suc (suc g))))) 2 ≡ false = ne-eqb (suc (suc (suc (suc (suc g))))) 2 (λ h. omega arith) in
+      silent (rw (n, e, f)) (rw (n, e, f, d))
+
+  subject-told : (s : Subject) → subjectOf (c .kind) (c .code) ≡ s → fieldError c ≡ 0 → FieldTold
+  unfolding effectOf
+  subject-told Ping e n = silent (rw (n, e)) (rw (n, e))
+  subject-told (About s) e n = about-told s e n (c .function) refl
+  subject-told Unknown e n = silent (rw (n, e)) (rw (n, e))
+
+  error-told : (n : ℕ) → fieldError c ≡ n → FieldTold
+  unfolding effectOf
+  error-told zero e = subject-told (subjectOf (c .kind) (c .code)) refl e
+  error-told (suc n) e =
+      let d : eqb (suc n) 0 ≡ false = ne-eqb (suc n) 0 (λ h. omega arith) in
+      silent (rw e) (rw (e, d))
+
+  field-told : Told (c .kind) (fieldOutcome (pageAccess port) x c .rows ++ bs) (record { echo = c .code; error = fieldError c; value = reported c (x .settings) } ∷ rs)
+  unfolding FieldTold
+  field-told = error-told (fieldError c) refl
+
+-- ---- the fields of a message
+
+module _ (port kind : ℕ) where
+  fields-told : (x : State (List ℕ)) (fs : List Field) → Sound x
+      → Told kind (fieldsOutcome (pageAccess port) x (commandsOf kind fs) .rows) (fieldRows (pageAccess port) x (commandsOf kind fs))
+  unfolding fieldsOutcome commandOf
+  fields-told x [] ok = no-told kind
+  fields-told x (f ∷ fs) ok =
+      let c : Command = commandOf kind f in
+      let next : State (List ℕ) = fieldOutcome (pageAccess port) x c .next in
+      field-told port x ok c (fieldsOutcome (pageAccess port) next (commandsOf kind fs) .rows) (fieldRows (pageAccess port) next (commandsOf kind fs))
+      (fields-told next fs (field-goes port x c ok .stays))
+
+  rows-length : (x : State (List ℕ)) (fs : List Field) → length (fieldRows (pageAccess port) x (commandsOf kind fs)) ≡ length fs
+  rows-length x [] = refl
+  rows-length x (f ∷ fs) = ap suc (rows-length (fieldOutcome (pageAccess port) x (commandOf kind f) .next) fs)
+
+-- So many rows are a reply.
+rows-right : (kind n : ℕ) → isKind kind ≡ true → 1 ≤ n → n ≤ 16 → rowsWrong kind n ≡ false
+rows-right kind n k l h = rw (ne-eqb n 0 (λ z. omega arith), le-ltb 16 n h, k) (go (ltb 1 n))
+  where
+    go : (b : Bool) → b && false ≡ false
+    go true = refl
+    go false = refl
+
+-- ---- a message
+
+message-read : (kind : ℕ) (p : List ℕ) (k : ℕ) → length p ≤ 255 → replyRead (messageOf kind p) k ≡ rowsRead kind (rowsIn kind (fieldsOf p)) k
 unfolding replyRead
-message-read kind p h =
+message-read kind p k h =
     let r = written-is-read kind p h in
     rw (r .whole, r .payload-back, r .kind-back)
 
--- A field 80 with an error of the table and nothing after it.
-plain-read : (kind echo error : ℕ) → error ≤ 4
-    → replyRead (messageOf kind (0x80 ∷ 0x02 ∷ echo ∷ error ∷ [])) ≡ record { number = 0; kind = kind; echo = echo; error = error; value = Absent }
-unfolding isPlain
-plain-read kind echo error h =
-    message-read kind (0x80 ∷ 0x02 ∷ echo ∷ error ∷ []) (omega arith) ∙ rw (le-leb error 4 h, eq-eqb echo echo refl, eq-eqb error error refl)
+told-read : (kind : ℕ) (p : List ℕ) (rs : List Row) (k : ℕ) → Told kind p rs → rowsWrong kind (length rs) ≡ false
+    → rowsRead kind (rowsIn kind (fieldsOf p)) k ≡ rowRead kind rs k
+unfolding fieldsOf
+told-read kind p rs k t e = rw (t .are, t .rows, e)
 
-row-short : (s : Setting) (x : ℕ) → length (valueRow s x) ≤ 6
-row-short Baud x = omega arith
-row-short Accelerometer x = omega arith
-row-short Gyroscope x = omega arith
-
--- One more field, with an allowed value.
-value-read : (s : Setting) (x : ℕ) → allowed s x ≡ true
-    → replyRead (messageOf 0x02 (0x80 ∷ 0x02 ∷ codeOf s ∷ 0 ∷ valueRow s x))
-    ≡ record { number = 0; kind = 0x02; echo = codeOf s; error = 0; value = Value x }
-unfolding isPlain valueIn
-value-read s x a =
-    let p : List ℕ = 0x80 ∷ 0x02 ∷ codeOf s ∷ 0 ∷ valueRow s x in
-    let n = row-short s x in
-    let e : eqb (codeOf s) (codeOf s) ≡ true = eq-eqb (codeOf s) (codeOf s) refl in
-    message-read 0x02 p (omega arith) ∙ rw (e, setting-back s, value-back s x a, a, e, eq-eqb (valueSize s) (valueSize s) refl, same-refl (valueBytes s x))
-
-working-allowed : (w : Settings) → settingsAllowed w ≡ true → (s : Setting) → allowed s (workingValue w s) ≡ true
-unfolding settingsAllowed
-working-allowed w a s =
-    let g = and-both (allowed Baud (w .baud) && allowed Accelerometer (w .accelerometer)) (allowed Gyroscope (w .gyroscope)) a in
-    let b = and-both (allowed Baud (w .baud)) (allowed Accelerometer (w .accelerometer)) (g .0) in
-    go s (b .0) (b .1) (g .1)
+-- The error of a message as a whole is of the table.
+message-most : (good : Bool) (kind : ℕ) (payload : List ℕ) → messageError good kind payload ≤ 4
+unfolding messageError
+message-most good kind payload = go (not good) (not (isKind kind)) (eqb (length payload) 0) (fieldsRefused (fieldsOf payload))
   where
-    go : (s : Setting) → allowed Baud (w .baud) ≡ true → allowed Accelerometer (w .accelerometer) ≡ true → allowed Gyroscope (w .gyroscope) ≡ true
-        → allowed s (workingValue w s) ≡ true
-    go Baud x y z = x
-    go Accelerometer x y z = y
-    go Gyroscope x y z = z
+    go : (a b c d : Bool) → refuse a 1 (refuse b 2 (refuse c 3 (refuse d 4 0))) ≤ 4
+    go true b c d = omega arith
+    go false true c d = omega arith
+    go false false true d = omega arith
+    go false false false true = omega arith
+    go false false false false = omega arith
 
-module _ (loaded : Setting → ℕ) (w : Settings) (c : Command) (a : settingsAllowed w ≡ true) where
-  -- A command that reports nothing has the plain reply.
-  silent : (row : List ℕ) (v : Stored) → row ≡ [] → v ≡ Absent
-      → replyRead (messageOf (c .kind) (replyPayload c (errorOf c) row)) ≡ record { number = 0; kind = c .kind; echo = c .code; error = errorOf c; value = v }
-  silent row v r e = rw (r, e) (plain-read (c .kind) (c .code) (errorOf c) (error-most c))
-
-  Read : Type 0
-  Read = replyRead (replyOf loaded w c) ≡ record { number = 0; kind = c .kind; echo = c .code; error = errorOf c; value = reported c w }
-
-  about-read : (s : Setting) → subjectOf (c .kind) (c .code) ≡ About s → errorOf c ≡ 0 → (f : ℕ) → c .function ≡ f → Read
-  unfolding Read replyOf effectOf
-  about-read s e n zero f = silent (effectOf loaded w c .row) (reported c w) (rw (n, e, f)) (rw (n, e, f))
-  about-read s e n (suc zero) f = silent (effectOf loaded w c .row) (reported c w) (rw (n, e, f)) (rw (n, e, f))
-  about-read s e n (suc (suc zero)) f =
-      let k = subject-about (c .kind) (c .code) s e in
-      rw (n, e, f, k .0, k .1) (value-read s (workingValue w s) (working-allowed w a s))
-  about-read s e n (suc (suc (suc zero))) f = silent (effectOf loaded w c .row) (reported c w) (rw (n, e, f)) (rw (n, e, f))
-  about-read s e n (suc (suc (suc (suc zero)))) f = silent (effectOf loaded w c .row) (reported c w) (rw (n, e, f)) (rw (n, e, f))
-  about-read s e n (suc (suc (suc (suc (suc g))))) f =
-      let d : eqb (suc (suc (suc (suc (suc g))))) 2 ≡ false = ne-eqb (suc (suc (suc (suc (suc g))))) 2 (λ h. omega arith) in
-      silent (effectOf loaded w c .row) (reported c w) (rw (n, e, f)) (rw (n, e, f, d))
-
-  subject-read : (s : Subject) → subjectOf (c .kind) (c .code) ≡ s → errorOf c ≡ 0 → Read
-  unfolding Read replyOf effectOf
-  subject-read Ping e n = silent (effectOf loaded w c .row) (reported c w) (rw (n, e)) (rw (n, e))
-  subject-read (About s) e n = about-read s e n (c .function) refl
-  subject-read Unknown e n = silent (effectOf loaded w c .row) (reported c w) (rw (n, e)) (rw (n, e))
-
-  error-read : (n : ℕ) → errorOf c ≡ n → Read
-  unfolding Read replyOf effectOf
-  error-read zero e = subject-read (subjectOf (c .kind) (c .code)) refl e
-  error-read (suc n) e =
-      let d : eqb (suc n) 0 ≡ false = ne-eqb (suc n) 0 (λ h. omega arith) in
-      silent (effectOf loaded w c .row) (reported c w) (rw e) (rw (e, d))
+module _ (port : ℕ) (m : Received) (x : State (List ℕ)) (k : ℕ) (ok : Sound x) where
+  rows-read : (n : ℕ) → messageError (m .good) (m .kind) (m .payload) ≡ n
+      → rowsRead (m .kind) (rowsIn (m .kind) (fieldsOf (messageOn (pageAccess port) n x (m .kind) (m .payload) .rows))) k
+      ≡ rowRead (m .kind) (messageRowsOn n (pageAccess port) x m) k
+  rows-read zero e =
+      let fs : List Field = fieldsIn (fieldsOf (m .payload)) in
+      let rs : List Row = fieldRows (pageAccess port) x (commandsOf (m .kind) fs) in
+      let l = fields-some (m .good) (m .kind) (m .payload) e in
+      let q : length rs ≡ length fs = rows-length port (m .kind) x fs in
+      let r : rowsWrong (m .kind) (length rs) ≡ false =
+      rows-right (m .kind) (length rs) (message-passed (m .good) (m .kind) (m .payload) e .kind-known) (omega (arith, l .0)) (omega (arith, l .1)) in
+      told-read (m .kind) (fieldsOutcome (pageAccess port) x (commandsOf (m .kind) fs) .rows) rs k (fields-told port (m .kind) x fs ok) r
+  rows-read (suc n) e =
+      let h : suc n ≤ 4 = omega (arith, message-most (m .good) (m .kind) (m .payload)) in
+      told-read (m .kind) (0x80 ∷ 0x02 ∷ getD (m .payload) 0 0 ∷ suc n ∷ []) (record { echo = getD (m .payload) 0 0; error = suc n; value = Absent } ∷ []) k
+      (plain-told (m .kind) (getD (m .payload) 0 0) (suc n) h [] [] (no-told (m .kind))) refl
 
 pub replies-read : RepliesRead
-unfolding Read
-replies-read loaded w c a = error-read loaded w c a (errorOf c) refl
+unfolding messageOutcome
+replies-read port m w page k s a =
+    let x : State (List ℕ) = record { settings = w; page = page } in
+    let p : List ℕ = messageOutcome (pageAccess port) x m .rows in
+    let l : length p ≤ 255 = omega (arith, message-length (m .kind) p, longest-reply .most (List ℕ) (pageAccess port) x m) in
+    message-read (m .kind) p k l
+    ∙ rows-read port m x k (record { settings = a; page = s }) (messageError (m .good) (m .kind) (m .payload)) refl

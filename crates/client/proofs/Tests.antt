@@ -1,18 +1,18 @@
 -- What the tests of the definitions tell: both of two, rows that are the same, and the bounds of allowed values.
-use Prim.Native.Nat.{ℕ, _%_, _≤_, _<_}
+use Prim.Native.Nat.{ℕ, _≤_, _<_}
 use native.Mathlib.Omega.{arith}
-use mathlib.Core.Path.{_≡_, refl, ap, sym, _∙_}
+use mathlib.Core.Path.{_≡_, refl, sym}
 use mathlib.Core.Bool.{Bool, true, false, _&&_}
 use mathlib.Core.List.{List, [], _∷_}
 use lib.Dec.{eqb, ltb}
-use lib.ListN.{length, getD}
+use lib.ListN.{length}
 use borrow.Author.Tests.{eqb-true, ltb-true}
 use Rattle.page.specs.declared.setting.Setting.{Setting}
 use Rattle.page.specs.declared.setting.Setting.the-variants.{Baud, Accelerometer, Gyroscope}
 use Rattle.page.specs.Settings.{someOf, allowedValues, allowed, valueBytes, valueSize}
 use Rattle.stream.proofs.Bools.{differ, and-both}
-use Rattle.word.specs.Word.{number, word, wordBytes}
-use Rattle.word.proofs.Numbers.{word-back, bytes-back}
+use Rattle.word.specs.Word.{number}
+use Rattle.word.proofs.Numbers.{word-back}
 
 -- ---- values
 
@@ -58,25 +58,7 @@ size-small Baud = omega arith
 size-small Accelerometer = omega arith
 size-small Gyroscope = omega arith
 
-one-written : (bs : List ℕ) → ((i : ℕ) → getD bs i 0 < 256) → length bs ≡ 1 → number bs % 256 ∷ [] ≡ bs
-one-written [] b l = absurd (omega arith)
-one-written (x ∷ []) b l =
-    let e : number (x ∷ []) % 256 ≡ x = omega (arith, b 0) in
-    rw e
-one-written (x ∷ y ∷ bs) b l = absurd (omega arith)
-
--- The other way: bytes of a value's size are those of the number that they make.
-pub value-written : (s : Setting) (bs : List ℕ) → ((i : ℕ) → getD bs i 0 < 256) → length bs ≡ valueSize s → valueBytes s (number bs) ≡ bs
-value-written Baud bs b l = four bs b l
-  where
-    four : (bs : List ℕ) → ((i : ℕ) → getD bs i 0 < 256) → length bs ≡ 4 → wordBytes (number bs) ≡ bs
-    four [] b l = absurd (omega arith)
-    four (x ∷ []) b l = absurd (omega arith)
-    four (x ∷ y ∷ []) b l = absurd (omega arith)
-    four (x ∷ y ∷ z ∷ []) b l = absurd (omega arith)
-    four (x ∷ y ∷ z ∷ w ∷ []) b l =
-        let e : number (x ∷ y ∷ z ∷ w ∷ []) ≡ word x y z w = omega arith in
-        ap wordBytes e ∙ bytes-back x y z w (b 0) (b 1) (b 2) (b 3)
-    four (x ∷ y ∷ z ∷ w ∷ v ∷ bs) b l = absurd (omega arith)
-value-written Accelerometer bs b l = one-written bs b l
-value-written Gyroscope bs b l = one-written bs b l
+pub size-some : (s : Setting) → 1 ≤ valueSize s
+size-some Baud = omega arith
+size-some Accelerometer = omega arith
+size-some Gyroscope = omega arith

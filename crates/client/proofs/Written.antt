@@ -1,113 +1,95 @@
--- Every message that is handled without error is what the command writer writes, but for what is not looked at.
-use Prim.Native.Nat.{ℕ, zero, suc, _+_, _%_, _≤_, _<_}
+-- Every message whose fields are all handled without error is one of what is asked for, but for what is not looked at.
+use Prim.Native.Nat.{ℕ, zero, suc, _+_, _%_, _<_}
 use native.Mathlib.Omega.{arith}
 use mathlib.Core.Path.{_≡_, refl, ap, sym, _∙_}
 use mathlib.Core.Bool.{Bool, true, false, _&&_, _||_, not}
-use mathlib.Core.List.{List, [], _∷_}
+use mathlib.Core.List.{List, [], _∷_, _++_}
 use lib.Dec.{eqb, leb}
-use lib.ListN.{length, take, drop, getD, length-drop, drop-of-length-le}
-use lib.Seq.{drop-cons, getD-drop, length-take-le}
+use lib.ListN.{length, take, drop, getD}
+use lib.Seq.{getD-drop}
 use borrow.Author.Tests.{eqb-true, eqb-false, leb-true, le-leb}
 use Rattle.word.specs.Word.{word, wordBytes}
 use Rattle.word.proofs.Numbers.{bytes-back}
 use Rattle.page.specs.declared.setting.Setting.{Setting}
 use Rattle.page.specs.declared.setting.Setting.the-variants.{Baud, Accelerometer, Gyroscope}
-use Rattle.page.specs.Settings.{settingOf, codeOf, allowed, valueBytes, valueSize}
-use Rattle.message.specs.Message.{messageOf, typeOf, lengthOf, payloadOf}
-use Rattle.message.proofs.RoundTrips.{passed}
-use Rattle.command.specs.declared.command.Command.{Command}
+use Rattle.page.specs.Settings.{codeOf, allowed, valueBytes, valueSize}
+use Rattle.message.specs.Fields.{Field, fieldBytes, rowBytes, SizesRight}
+use Rattle.message.specs.Message.{typeOf, lengthOf, payloadOf}
+use Rattle.message.proofs.FieldRows.{fields-fill}
 use Rattle.command.specs.declared.command.Subject.{Subject}
 use Rattle.command.specs.declared.command.Subject.the-variants.{Ping, Setting as About, Unknown}
-use Rattle.command.specs.Command.{valueFor, subjectOf}
-use Rattle.command.specs.Errors.{errorOf, isFunction}
-use Rattle.client.specs.Writer.{codeSubject, acceptable, commandMessage}
-use Rattle.client.specs.Theorems.{lookedAt, ObeyedIsWritten}
+use Rattle.command.specs.Command.{commandOf, valueFor, subjectOf}
+use Rattle.command.specs.Errors.{fieldError, isFunction}
+use Rattle.command.proofs.Accepts.{Accepted, accepted}
 use Rattle.stream.proofs.Bools.{differ, and-both}
+use Rattle.client.specs.Writer.{acceptable, Asked, askedField, askedRight}
+use Rattle.client.specs.Commands.{askedFields, allRight, lookedAt, allLookedAt, NoErrors, ObeyedIsWritten}
 use Rattle.client.proofs.Tests.{value-length}
-use Rattle.client.proofs.Commands.{commandIn, command-in, subject-ping, subject-about}
-use Rattle.command.proofs.Accepts.{accepted}
+use Rattle.client.proofs.Commands.{about-back, subject-ping, subject-about}
 
--- ---- rows of a known length
+-- ---- data of a known length
 
-row-two : (p : List ℕ) → length p ≡ 2 → p ≡ getD p 0 0 ∷ getD p 1 0 ∷ []
-row-two [] l = absurd (omega arith)
-row-two (a ∷ []) l = absurd (omega arith)
-row-two (a ∷ b ∷ []) l = refl
-row-two (a ∷ b ∷ c ∷ p) l = absurd (omega arith)
+data-none : (l : List ℕ) → length l ≡ 0 → l ≡ []
+data-none [] e = refl
+data-none (a ∷ l) e = absurd (omega arith)
 
-row-three : (p : List ℕ) → 3 ≤ length p → p ≡ getD p 0 0 ∷ getD p 1 0 ∷ getD p 2 0 ∷ drop 3 p
-row-three [] l = absurd (omega arith)
-row-three (a ∷ []) l = absurd (omega arith)
-row-three (a ∷ b ∷ []) l = absurd (omega arith)
-row-three (a ∷ b ∷ c ∷ p) l = refl
+-- A function, and the bytes of the number that follows it.
+data-byte : (l : List ℕ) → ((i : ℕ) → getD l i 0 < 256) → length l ≡ 2 → l ≡ getD l 0 0 ∷ getD l 1 0 % 256 ∷ []
+data-byte [] b e = absurd (omega arith)
+data-byte (f ∷ []) b e = absurd (omega arith)
+data-byte (f ∷ x ∷ []) b e = let r : x % 256 ≡ x = omega (arith, b 1) in rw r
+data-byte (f ∷ x ∷ y ∷ l) b e = absurd (omega arith)
 
--- The value bytes of a payload are those of the number that they make.
-one-byte : (p : List ℕ) → ((i : ℕ) → getD p i 0 < 256) → length p ≡ 4 → drop 3 p ≡ getD p 3 0 % 256 ∷ []
-one-byte p b l =
-    let e : getD p 3 0 % 256 ≡ getD p 3 0 = omega (arith, b 3) in
-    rw e (drop-cons p 3 0 (omega arith) ∙ ap (λ (t : List ℕ). getD p 3 0 ∷ t) (drop-of-length-le p {i = 4} (omega arith)))
+data-word : (l : List ℕ) → ((i : ℕ) → getD l i 0 < 256) → length l ≡ 5
+    → l ≡ getD l 0 0 ∷ wordBytes (word (getD l 1 0) (getD l 2 0) (getD l 3 0) (getD l 4 0))
+data-word [] b e = absurd (omega arith)
+data-word (f ∷ []) b e = absurd (omega arith)
+data-word (f ∷ w ∷ []) b e = absurd (omega arith)
+data-word (f ∷ w ∷ x ∷ []) b e = absurd (omega arith)
+data-word (f ∷ w ∷ x ∷ y ∷ []) b e = absurd (omega arith)
+data-word (f ∷ w ∷ x ∷ y ∷ z ∷ []) b e = ap (λ (l : List ℕ). f ∷ l) (sym (bytes-back w x y z (b 1) (b 2) (b 3) (b 4)))
+data-word (f ∷ w ∷ x ∷ y ∷ z ∷ v ∷ l) b e = absurd (omega arith)
 
-four-bytes : (p : List ℕ) → ((i : ℕ) → getD p i 0 < 256) → length p ≡ 7
-    → drop 3 p ≡ wordBytes (word (getD p 3 0) (getD p 4 0) (getD p 5 0) (getD p 6 0))
-four-bytes p b l =
-    let e3 = drop-cons p 3 0 (omega arith) in
-    let e4 = drop-cons p 4 0 (omega arith) in
-    let e5 = drop-cons p 5 0 (omega arith) in
-    let e6 = drop-cons p 6 0 (omega arith) in
-    let e7 : drop 7 p ≡ [] = drop-of-length-le p {i = 7} (omega arith) in
-    let r : drop 3 p ≡ getD p 3 0 ∷ getD p 4 0 ∷ getD p 5 0 ∷ getD p 6 0 ∷ [] = cc in
-    r ∙ sym (bytes-back (getD p 3 0) (getD p 4 0) (getD p 5 0) (getD p 6 0) (b 3) (b 4) (b 5) (b 6))
+data-value : (s : Setting) (kind : ℕ) (f : Field) → ((i : ℕ) → getD (f .content) i 0 < 256) → length (f .content) ≡ 1 + valueSize s
+    → f .content ≡ getD (f .content) 0 0 ∷ valueBytes s (valueFor s (commandOf kind f))
+unfolding commandOf
+data-value Baud kind f b e = data-word (f .content) b e
+data-value Accelerometer kind f b e = data-byte (f .content) b e
+data-value Gyroscope kind f b e = data-byte (f .content) b e
 
-value-bytes : (s : Setting) (kind : ℕ) (p : List ℕ) → ((i : ℕ) → getD p i 0 < 256) → length p ≡ 3 + valueSize s
-    → drop 3 p ≡ valueBytes s (valueFor s (commandIn kind p))
-value-bytes Baud kind p b l = four-bytes p b l
-value-bytes Accelerometer kind p b l = one-byte p b l
-value-bytes Gyroscope kind p b l = one-byte p b l
+-- ---- one field
 
--- ---- a payload
+record FieldIs (kind : ℕ) (f : Field) : Type 0 where
+  asked : Asked
+  right : askedRight kind asked ≡ true
+  written : fieldBytes (lookedAt kind f) ≡ askedField kind asked
 
-pub record PayloadIs (kind : ℕ) (p : List ℕ) : Type 0 where
-  pub code : ℕ
-  pub function : ℕ
-  pub value : ℕ
-  pub acceptance : acceptable (codeSubject code) function value ≡ true
-  pub written : messageOf kind (lookedAt kind p) ≡ commandMessage code function value
+ping-is : (kind : ℕ) (f : Field) → kind ≡ 0x01 → f ≡ record { code = 0x02; size = 0x00; content = [] } → FieldIs kind f
+unfolding acceptable subjectOf
+ping-is kind f k e = record { asked = record { code = 0x02; function = 0; value = 0 }; right = rw k; written = rw (k, e) }
 
-code-back : (s : Setting) → codeSubject (codeOf s) ≡ About s
-unfolding codeSubject settingOf
-code-back Baud = refl
-code-back Accelerometer = refl
-code-back Gyroscope = refl
-
-ping-is : (kind : ℕ) (p : List ℕ) → kind ≡ 0x01 → p ≡ 0x02 ∷ 0x00 ∷ [] → PayloadIs kind p
-unfolding codeSubject acceptable commandMessage
-ping-is kind p k e = record { code = 0x02; function = 0; value = 0; acceptance = refl; written = rw (k, e) }
-
-module _ (s : Setting) (kind : ℕ) (p : List ℕ) (k : kind ≡ 0x02) (c : getD p 0 0 ≡ codeOf s) where
-  -- function 1, with the bytes of an allowed value
-  used-is : (v : ℕ) → getD p 2 0 ≡ 1 → allowed s v ≡ true → p ≡ codeOf s ∷ (1 + valueSize s) ∷ 1 ∷ valueBytes s v → PayloadIs kind p
-  unfolding acceptable commandMessage
-  used-is v f a e =
+module _ (s : Setting) (kind : ℕ) (f : Field) (k : kind ≡ 0x02) (c : f .code ≡ codeOf s) where
+  -- Function 1, with the bytes of an allowed value.
+  used-is : (v : ℕ) → allowed s v ≡ true → f .size ≡ 1 + valueSize s → f .content ≡ 1 ∷ valueBytes s v → FieldIs kind f
+  unfolding acceptable
+  used-is v a n e =
       record {
-        code = codeOf s;
-        function = 1;
-        value = v;
-        acceptance = rw (code-back s, a);
-        written = rw (code-back s, k, f) (ap (messageOf 0x02) (e ∙ rw (value-length s v)));
+        asked = record { code = codeOf s; function = 1; value = v };
+        right = rw (k, about-back s, a);
+        written = rw (k, e, c, n, about-back s, value-length s v);
       }
 
-  -- functions 2 to 5: the value bytes are not looked at
-  unused-is : isFunction (getD p 2 0) ≡ true → eqb (getD p 2 0) 1 ≡ false → PayloadIs kind p
-  unfolding acceptable commandMessage
+  -- Functions 2 to 5: the value bytes are not looked at.
+  unused-is : isFunction (getD (f .content) 0 0) ≡ true → eqb (getD (f .content) 0 0) 1 ≡ false → FieldIs kind f
+  unfolding acceptable
   unused-is i n =
-      let b = and-both (leb 1 (getD p 2 0)) (leb (getD p 2 0) 5) i in
-      let l : leb 2 (getD p 2 0) ≡ true = le-leb 2 (getD p 2 0) (omega (arith, leb-true 1 (getD p 2 0) (b .0), eqb-false (getD p 2 0) 1 n)) in
+      let b = and-both (leb 1 (getD (f .content) 0 0)) (leb (getD (f .content) 0 0) 5) i in
+      let l : leb 2 (getD (f .content) 0 0) ≡ true =
+      le-leb 2 (getD (f .content) 0 0) (omega (arith, leb-true 1 (getD (f .content) 0 0) (b .0), eqb-false (getD (f .content) 0 0) 1 n)) in
       record {
-        code = codeOf s;
-        function = getD p 2 0;
-        value = 0;
-        acceptance = rw (code-back s, b .0, b .1, n);
-        written = rw (code-back s, k, l, n, c);
+        asked = record { code = codeOf s; function = getD (f .content) 0 0; value = 0 };
+        right = rw (k, about-back s, b .0, b .1, n);
+        written = rw (k, about-back s, l, n, c);
       }
 
 -- Under function 1 the size is the first of the two.
@@ -117,41 +99,36 @@ first-size false true true f e = differ (sym e)
 first-size false true false f e = differ (sym f)
 first-size false false t f e = differ (sym e)
 
-module _ (kind : ℕ) (p : List ℕ) (bytes : (i : ℕ) → getD p i 0 < 256) (free : errorOf (commandIn kind p) ≡ 0) where
-  abbrev c : Command
-  c = commandIn kind p
+module _ (kind : ℕ) (f : Field) (sized : f .size ≡ length (f .content)) (bytes : (i : ℕ) → getD (f .content) i 0 < 256) (free : fieldError (commandOf kind f) ≡ 0) where
+  passed : Accepted (commandOf kind f)
+  passed = accepted (commandOf kind f) free
 
-  about-is : (s : Setting) → subjectOf kind (getD p 0 0) ≡ About s → (t : Bool) → eqb (getD p 2 0) 1 ≡ t → PayloadIs kind p
-  about-is s e true f =
-      let a = accepted c free in
-      let k = subject-about kind (getD p 0 0) s e in
-      let g : getD p 2 0 ≡ 1 = eqb-true (getD p 2 0) 1 f in
-      let z : eqb (getD p 1 0) (1 + valueSize s) || (eqb (getD p 1 0) 1 && not (eqb (getD p 2 0) 1)) ≡ true = rw e at (a .field .size) in
-      let x = first-size (eqb (getD p 1 0) (1 + valueSize s)) (eqb (getD p 1 0) 1) (eqb (getD p 2 0) 1) f z in
-      let n : getD p 1 0 ≡ 1 + valueSize s = eqb-true (getD p 1 0) (1 + valueSize s) x in
-      let l : getD p 1 0 + 2 ≡ length p = a .sized in
-      let h : allowed s (valueFor s c) ≡ true = rw (e, f) at (a .field .value) in
-      let r = row-three p (omega arith) in
-      let v = value-bytes s kind p bytes (omega arith) in
-      used-is s kind p (k .0) (k .1) (valueFor s c) g h (cc)
-  about-is s e false f =
-      let a = accepted c free in
-      let k = subject-about kind (getD p 0 0) s e in
-      unused-is s kind p (k .0) (k .1) (rw e at (a .field .function)) f
+  about-is : (s : Setting) → subjectOf kind (f .code) ≡ About s → (t : Bool) → eqb (getD (f .content) 0 0) 1 ≡ t → FieldIs kind f
+  unfolding commandOf
+  about-is s e true o =
+      let k = subject-about kind (f .code) s e in
+      let g : getD (f .content) 0 0 ≡ 1 = eqb-true (getD (f .content) 0 0) 1 o in
+      let z : eqb (f .size) (1 + valueSize s) || (eqb (f .size) 1 && not (eqb (getD (f .content) 0 0) 1)) ≡ true = rw e at (passed .field .size) in
+      let x = first-size (eqb (f .size) (1 + valueSize s)) (eqb (f .size) 1) (eqb (getD (f .content) 0 0) 1) o z in
+      let n : f .size ≡ 1 + valueSize s = eqb-true (f .size) (1 + valueSize s) x in
+      let h : allowed s (valueFor s (commandOf kind f)) ≡ true = rw (e, o) at (passed .field .value) in
+      let v : ℕ = valueFor s (commandOf kind f) in
+      used-is s kind f (k .0) (k .1) v h n (data-value s kind f bytes (sym sized ∙ n) ∙ ap (λ (g : ℕ). g ∷ valueBytes s v) g)
+  about-is s e false o =
+      let k = subject-about kind (f .code) s e in
+      unused-is s kind f (k .0) (k .1) (rw e at (passed .field .function)) o
 
-  payload-is : (s : Subject) → subjectOf kind (getD p 0 0) ≡ s → PayloadIs kind p
-  payload-is Ping e =
-      let a = accepted c free in
-      let k = subject-ping kind (getD p 0 0) e in
-      let z : getD p 1 0 ≡ 0 = eqb-true (getD p 1 0) 0 (rw e at (a .field .size)) in
-      let l : getD p 1 0 + 2 ≡ length p = a .sized in
-      ping-is kind p (k .0) (row-two p (omega arith) ∙ rw (k .1, z))
-  payload-is (About s) e = about-is s e (eqb (getD p 2 0) 1) refl
-  payload-is Unknown e =
-      let a = accepted c free in
-      differ (sym (rw e at (a .field .size)))
+  field-is : (s : Subject) → subjectOf kind (f .code) ≡ s → FieldIs kind f
+  unfolding commandOf
+  field-is Ping e =
+      let k = subject-ping kind (f .code) e in
+      let z : f .size ≡ 0 = eqb-true (f .size) 0 (rw e at (passed .field .size)) in
+      let d : f .content ≡ [] = data-none (f .content) (sym sized ∙ z) in
+      ping-is kind f (k .0) (rw (k .1, z, d))
+  field-is (About s) e = about-is s e (eqb (getD (f .content) 0 0) 1) refl
+  field-is Unknown e = differ (sym (rw e at (passed .field .size)))
 
--- ---- a message
+-- ---- bytes of a part
 
 taken-byte : (n : ℕ) (l : List ℕ) → ((i : ℕ) → getD l i 0 < 256) → (i : ℕ) → getD (take n l) i 0 < 256
 taken-byte zero l b i = omega arith
@@ -159,12 +136,32 @@ taken-byte (suc n) [] b i = omega arith
 taken-byte (suc n) (x ∷ l) b zero = b 0
 taken-byte (suc n) (x ∷ l) b (suc i) = taken-byte n l (λ j. b (suc j)) i
 
+front-byte : (xs ys : List ℕ) → ((i : ℕ) → getD (xs ++ ys) i 0 < 256) → (i : ℕ) → getD xs i 0 < 256
+front-byte [] ys b i = omega arith
+front-byte (x ∷ xs) ys b zero = b 0
+front-byte (x ∷ xs) ys b (suc i) = front-byte xs ys (λ j. b (suc j)) i
+
+behind-byte : (xs ys : List ℕ) → ((i : ℕ) → getD (xs ++ ys) i 0 < 256) → (i : ℕ) → getD ys i 0 < 256
+behind-byte [] ys b i = b i
+behind-byte (x ∷ xs) ys b i = behind-byte xs ys (λ j. b (suc j)) i
+
+-- ---- a message
+
+record FieldsAre (kind : ℕ) (fs : List Field) : Type 0 where
+  asked : List Asked
+  right : allRight kind asked ≡ true
+  written : rowBytes (allLookedAt kind fs) ≡ askedFields kind asked
+
+fields-are : (kind : ℕ) (fs : List Field) → SizesRight fs → ((i : ℕ) → getD (rowBytes fs) i 0 < 256) → NoErrors kind fs → FieldsAre kind fs
+fields-are kind [] s b e = record { asked = []; right = refl; written = refl }
+fields-are kind (f ∷ fs) s b e =
+    let one = field-is kind f (s .0) (λ i. front-byte (fieldBytes f) (rowBytes fs) b (suc (suc i))) (e .0) (subjectOf kind (f .code)) refl in
+    let more = fields-are kind fs (s .1) (behind-byte (fieldBytes f) (rowBytes fs) b) (e .1) in
+    record { asked = one .asked ∷ more .asked; right = rw (one .right, more .right); written = rw (← one .written, more .written) }
+
 pub obeyed-is-written : ObeyedIsWritten
-obeyed-is-written m b whole free =
-    let w = passed m whole in
-    let d = length-drop 4 m in
-    let l : length (payloadOf m) ≡ lengthOf m = length-take-le (lengthOf m) (drop 4 m) (omega (arith, w .sized)) in
+obeyed-is-written m fs b e free =
+    let f = fields-fill (payloadOf m) fs e in
     let q : (i : ℕ) → getD (payloadOf m) i 0 < 256 = taken-byte (lengthOf m) (drop 4 m) (λ i. rw (getD-drop 4 m i 0) (b (4 + i))) in
-    let z : errorOf (commandIn (typeOf m) (payloadOf m)) ≡ 0 = rw (command-in m (sym l)) at free in
-    let r = payload-is (typeOf m) (payloadOf m) q z (subjectOf (typeOf m) (getD (payloadOf m) 0 0)) refl in
-    record { code = r .code; function = r .function; value = r .value; accepted = r .acceptance; written = r .written }
+    let r = fields-are (typeOf m) fs (f .1) (rw (f .0) q) free in
+    record { asked = r .asked; right = r .right; written = r .written }

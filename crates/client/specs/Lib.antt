@@ -1,4 +1,5 @@
-pub mod Writer
+pub mod Commands
 pub mod Reader
+pub mod Replies
 pub mod Rows
-pub mod Theorems
+pub mod Writer

@@ -1,71 +1,112 @@
--- Document 01, "Handling one message": the reply reader.
-use mathlib.Core.Bool.{Bool, true, false, _&&_}
-use mathlib.Core.List.{List, [], _∷_, _++_}
+-- Document 01, "Handling one message", and request 02: the reply reader, which reads one row of a reply.
+use mathlib.Core.Bool.{Bool, true, false, _&&_, _||_, not}
+use mathlib.Core.List.{List, [], _∷_}
+use mathlib.Core.Option.{Option, none, some}
 use Prim.Native.Nat.{ℕ, zero, suc}
-use lib.Dec.{eqb, leb}
-use lib.ListN.{getD, drop}
+use lib.Dec.{eqb, leb, ltb}
+use lib.ListN.{length, getD}
 use Rattle.word.specs.Word.{number}
 use Rattle.page.specs.declared.setting.Coded.{Coded}
 use Rattle.page.specs.declared.setting.Coded.the-variants.{Setting as Known, Nothing}
 use Rattle.page.specs.declared.setting.Stored.{Stored}
 use Rattle.page.specs.declared.setting.Stored.the-variants.{Absent, Value}
-use Rattle.page.specs.Settings.{settingOf, codeOf, allowed}
-use Rattle.page.specs.Sound.{same}
+use Rattle.page.specs.Settings.{settingOf, codeOf, valueSize, allowed}
+use Rattle.message.specs.Fields.{Field, fieldsOf}
 use Rattle.message.specs.Message.{typeOf, payloadOf}
 use Rattle.message.specs.Whole.{wholeNumber}
-use Rattle.command.specs.Effects.{valueRow}
+use Rattle.command.specs.Errors.{mostFields, isKind}
 use Rattle.client.specs.declared.reader.Reply.{Reply}
+
+-- ---- a row
+
+-- What a row says: the echo, the error, and the value that follows them, if there is one.
+pub record Row : Type 0 where
+  pub echo : ℕ
+  pub error : ℕ
+  pub value : Stored
 
 -- The errors of the table, 0 to 4.
 abbrev pub isError : ℕ → Bool
 isError e = leb e 4
 
--- A field 80 of size 2: echo and error.
-abbrev pub replyRow : ℕ → ℕ → List ℕ
-replyRow echo error = 0x80 ∷ 0x02 ∷ echo ∷ error ∷ []
+abbrev pub echoIn : Field → ℕ
+echoIn f = getD (f .content) 0 0
 
-abbrev pub echoIn : List ℕ → ℕ
-echoIn payload = getD payload 2 0
+abbrev pub errorIn : Field → ℕ
+errorIn f = getD (f .content) 1 0
 
-abbrev pub errorIn : List ℕ → ℕ
-errorIn payload = getD payload 3 0
-
--- That field with an error of the table, and nothing after it.
-unfoldable pub isPlain : List ℕ → Bool
-isPlain payload = isError (errorIn payload) && same payload (replyRow (echoIn payload) (errorIn payload))
+-- A field 80 of size 2, echo and error, with an error of the table.
+abbrev pub isRow : Field → Bool
+isRow f = eqb (f .code) 0x80 && eqb (f .size) 2 && isError (errorIn f)
 
 abbrev pub valueOn : Bool → ℕ → Stored
 valueOn true x = Value x
 valueOn false x = Absent
 
--- The value in one more field, whose code is the echo, with its value size and an allowed value; error 0.
-unfoldable pub valueIn : Coded → List ℕ → Stored
-valueIn Nothing payload = Absent
-valueIn (Known s) payload =
-    let x : ℕ = number (drop 6 payload) in
-    valueOn (allowed s x && same payload (replyRow (codeOf s) 0 ++ valueRow s x)) x
+-- The value in a field whose code is that of a setting, with its value size and an allowed value.
+abbrev pub valueIn : Coded → Field → Stored
+valueIn Nothing g = Absent
+valueIn (Known s) g = valueOn (eqb (g .code) (codeOf s) && eqb (g .size) (valueSize s) && allowed s (number (g .content))) (number (g .content))
+
+abbrev pub valueIf : Bool → Stored → Stored
+valueIf true v = v
+valueIf false v = Absent
+
+-- The value that a second field adds to a row: in type 02 and with error 0, where its code is the echo.
+unfoldable pub valueAfter : ℕ → Field → Field → Stored
+valueAfter kind f g = valueIf (eqb kind 0x02 && eqb (errorIn f) 0) (valueIn (settingOf (echoIn f)) g)
+
+-- ---- the rows of a reply
+
+abbrev pub consRow : Row → Option (List Row) → Option (List Row)
+consRow r none = none
+consRow r (some rs) = some (r ∷ rs)
+
+-- A first field must be a row. A value that the second adds to it is read with it; else the second is the next row's.
+abbrev pub rowOn : Bool → Field → Stored → Option (List Row) → Option (List Row) → Option (List Row)
+rowOn false f v past here = none
+rowOn true f (Value x) past here = consRow (record { echo = echoIn f; error = errorIn f; value = Value x }) past
+rowOn true f Absent past here = consRow (record { echo = echoIn f; error = errorIn f; value = Absent }) here
+
+-- The rows that fields in a message of this type are; none where they are not rows.
+unfoldable pub rowsOf : ℕ → List Field → Option (List Row)
+rowsOf kind [] = some []
+rowsOf kind (f ∷ []) = rowOn (isRow f) f Absent (some []) (some [])
+rowsOf kind (f ∷ g ∷ fs) = rowOn (isRow f) f (valueAfter kind f g) (rowsOf kind fs) (rowsOf kind (g ∷ fs))
+
+abbrev pub rowsIn : ℕ → Option (List Field) → Option (List Row)
+rowsIn kind none = none
+rowsIn kind (some fs) = rowsOf kind fs
+
+-- ---- the reader
 
 -- A refusal gives zeros.
 abbrev pub noReply : ℕ → Reply
 noReply n = record { number = n; kind = 0; echo = 0; error = 0; value = Absent }
 
-abbrev pub valuedReply : Stored → ℕ → ℕ → Reply
-valuedReply Absent kind echo = noReply 23
-valuedReply (Value x) kind echo = record { number = 0; kind = kind; echo = echo; error = 0; value = Value x }
+-- The row of a number, counted from 0; 27 where there is none.
+abbrev pub rowRead : ℕ → List Row → ℕ → Reply
+rowRead kind [] k = noReply 27
+rowRead kind (r ∷ rs) zero = record { number = 0; kind = kind; echo = r .echo; error = r .error; value = r .value }
+rowRead kind (r ∷ rs) (suc k) = rowRead kind rs k
 
--- One more field comes with type 02 only.
-abbrev pub moreOn : Bool → ℕ → List ℕ → Reply
-moreOn true kind payload = valuedReply (valueIn (settingOf (echoIn payload)) payload) kind (echoIn payload)
-moreOn false kind payload = noReply 23
+-- A reply has 1 to 16 rows, several only in types 01 and 02.
+abbrev pub rowsWrong : ℕ → ℕ → Bool
+rowsWrong kind n = eqb n 0 || ltb mostFields n || (ltb 1 n && not (isKind kind))
 
-abbrev pub replyOn : Bool → ℕ → List ℕ → Reply
-replyOn true kind payload = record { number = 0; kind = kind; echo = echoIn payload; error = errorIn payload; value = Absent }
-replyOn false kind payload = moreOn (eqb kind 0x02) kind payload
+abbrev pub refuseReply : Bool → ℕ → Reply → Reply
+refuseReply true n next = noReply n
+refuseReply false n next = next
 
-abbrev pub wholeOn : ℕ → List ℕ → Reply
-wholeOn zero m = replyOn (isPlain (payloadOf m)) (typeOf m) (payloadOf m)
-wholeOn (suc n) m = noReply (suc n)
+-- 23, then 27.
+abbrev pub rowsRead : ℕ → Option (List Row) → ℕ → Reply
+rowsRead kind none k = noReply 23
+rowsRead kind (some rs) k = refuseReply (rowsWrong kind (length rs)) 23 (rowRead kind rs k)
 
--- 21 and 22: not one whole message, sums wrong; 23: not a reply.
-unfoldable pub replyRead : List ℕ → Reply
-replyRead m = wholeOn (wholeNumber m) m
+abbrev pub wholeOn : ℕ → List ℕ → ℕ → Reply
+wholeOn zero m k = rowsRead (typeOf m) (rowsIn (typeOf m) (fieldsOf (payloadOf m))) k
+wholeOn (suc n) m k = noReply (suc n)
+
+-- 21 and 22: not one whole message, sums wrong; 23: not a reply; 27: no row of that number.
+unfoldable pub replyRead : List ℕ → ℕ → Reply
+replyRead m k = wholeOn (wholeNumber m) m k

@@ -1,35 +1,42 @@
--- The reply reader, in its parts: what follows the field 80 of a reply.
+-- Internal: the rows of a reply on its bytes, as the reader's code tests them.
 use mathlib.Core.Bool.{Bool, true, false, _&&_}
 use mathlib.Core.List.{List}
-use Prim.Native.Nat.{ℕ}
-use lib.Dec.{eqb}
-use lib.ListN.{drop}
+use Prim.Native.Nat.{ℕ, _+_}
+use lib.Dec.{eqb, leb, ltb}
+use lib.ListN.{length, take, drop, getD}
 use Rattle.word.specs.Word.{number}
 use Rattle.page.specs.declared.setting.Setting.{Setting}
 use Rattle.page.specs.declared.setting.Coded.{Coded}
 use Rattle.page.specs.declared.setting.Coded.the-variants.{Setting as Known, Nothing}
-use Rattle.page.specs.declared.setting.Stored.{Stored}
-use Rattle.page.specs.declared.setting.Stored.the-variants.{Absent}
-use Rattle.page.specs.Settings.{settingOf, allowed}
-use Rattle.page.specs.Sound.{same}
-use Rattle.command.specs.Effects.{valueRow}
-use Rattle.client.specs.declared.reader.Reply.{Reply}
-use Rattle.client.specs.Reader.{valueOn, noReply, valuedReply}
+use Rattle.page.specs.Settings.{settingOf, codeOf, valueSize, allowed}
+use Rattle.client.specs.Reader.{Row, isError, valueOn}
 
--- The value in a field that is a setting's, with its value size and an allowed value.
-unfoldable pub rowValue : Setting → List ℕ → Stored
-rowValue s row =
-    let x : ℕ = number (drop 2 row) in
-    valueOn (allowed s x && same row (valueRow s x)) x
+-- Do the bytes start with a field of this setting, with its value size and an allowed value?
+unfoldable pub startsWithValue : Setting → List ℕ → Bool
+startsWithValue s bs =
+    leb (valueSize s + 2) (length bs) && eqb (getD bs 0 0) (codeOf s) && eqb (getD bs 1 0) (valueSize s)
+    && allowed s (number (take (valueSize s) (drop 2 bs)))
 
-abbrev pub codedValue : Coded → List ℕ → Stored
-codedValue Nothing row = Absent
-codedValue (Known s) row = rowValue s row
+abbrev pub sizeIf : Bool → ℕ → ℕ
+sizeIf true n = n
+sizeIf false n = 0
 
-abbrev pub moreIf : Bool → Reply → Reply
-moreIf true reply = reply
-moreIf false reply = noReply 23
+abbrev pub codedSize : Coded → List ℕ → ℕ
+codedSize Nothing bs = 0
+codedSize (Known s) bs = sizeIf (startsWithValue s bs) (valueSize s + 2)
 
--- The reply of a type, an echo and an error with one more field: type 02 and error 0.
-unfoldable pub moreReply : ℕ → ℕ → ℕ → List ℕ → Reply
-moreReply kind echo error row = moreIf (eqb kind 0x02 && eqb error 0) (valuedReply (codedValue (settingOf echo) row) kind echo)
+-- The size of the field behind an echo and an error that adds a value to them; 0 where none does.
+unfoldable pub valueFieldSize : ℕ → ℕ → ℕ → List ℕ → ℕ
+valueFieldSize kind echo error bs = sizeIf (eqb kind 0x02 && eqb error 0) (codedSize (settingOf echo) bs)
+
+-- Do the bytes start with a field 80 of size 2, with an error of the table?
+abbrev pub startsWithRow : List ℕ → Bool
+startsWithRow bs = leb 4 (length bs) && eqb (getD bs 0 0) 0x80 && eqb (getD bs 1 0) 2 && isError (getD bs 3 0)
+
+-- The size of the row that bytes start with, its value with it; 0 where they start with none.
+unfoldable pub rowSize : ℕ → List ℕ → ℕ
+rowSize kind bs = sizeIf (startsWithRow bs) (4 + valueFieldSize kind (getD bs 2 0) (getD bs 3 0) (drop 4 bs))
+
+-- What the bytes of a row say. A value stands behind the four bytes of the field 80 and the next field's code and size.
+unfoldable pub rowIn : List ℕ → Row
+rowIn bs = record { echo = getD bs 2 0; error = getD bs 3 0; value = valueOn (ltb 6 (length bs)) (number (drop 6 bs)) }

@@ -2,14 +2,14 @@
 use mathlib.Core.Bool.{Bool, true, false, _&&_, _||_, not}
 use mathlib.Core.List.{List, [], _∷_}
 use Prim.Native.Nat.{ℕ, _+_}
-use lib.Dec.{eqb}
+use lib.Dec.{eqb, ltb}
 use lib.ListN.{length}
 use Rattle.page.specs.Settings.{settingOf, codeOf, allowed, valueBytes}
 use Rattle.message.specs.Message.{messageOf}
-use Rattle.message.specs.Write.{Writing, refuseWriting, writingOf}
+use Rattle.message.specs.Write.{Writing, refuseWriting, writingOf, putAt}
 use Rattle.command.specs.declared.command.Subject.{Subject}
 use Rattle.command.specs.declared.command.Subject.the-variants.{Ping, Setting as About, Unknown}
-use Rattle.command.specs.Command.{subjectOn}
+use Rattle.command.specs.Command.{subjectOn, subjectOf}
 use Rattle.command.specs.Errors.{isFunction}
 
 abbrev pub pingOr : Bool → Subject → Subject
@@ -50,3 +50,31 @@ commandMessage code function value = messageOf (kindFor (codeSubject code)) (fie
 unfoldable pub commandWriting : ℕ → ℕ → ℕ → List ℕ → Writing
 commandWriting code function value room =
     refuseWriting (not (acceptable (codeSubject code) function value)) 28 room (writingOf (commandMessage code function value) room)
+
+-- ---- a command of several fields
+
+-- What a field of a command asks for.
+pub record Asked : Type 0 where
+  pub code : ℕ
+  pub function : ℕ
+  pub value : ℕ
+
+-- What it is about, in a message of this type.
+abbrev pub askedSubject : ℕ → Asked → Subject
+askedSubject kind a = subjectOf kind (a .code)
+
+abbrev pub askedField : ℕ → Asked → List ℕ
+askedField kind a = fieldFor (askedSubject kind a) (a .function) (a .value)
+
+abbrev pub askedRight : ℕ → Asked → Bool
+askedRight kind a = acceptable (askedSubject kind a) (a .function) (a .value)
+
+-- Bytes behind the first n of a room: 18 where they do not fit. The answer has the length with them.
+abbrev pub behindWriting : List ℕ → ℕ → List ℕ → Writing
+behindWriting bs n room =
+    refuseWriting (ltb (length room) (n + length bs)) 18 room (record { answer = record { number = 0; length = n + length bs }; room = putAt n bs room })
+
+-- One field more behind the first n bytes of a room, a payload to be: 28 where a message of this type with that field would not be
+-- accepted, then 18.
+unfoldable pub fieldWriting : ℕ → Asked → ℕ → List ℕ → Writing
+fieldWriting kind a n room = refuseWriting (not (askedRight kind a)) 28 room (behindWriting (askedField kind a) n room)

@@ -4,4 +4,5 @@ mod writer;
 
 pub use reader::Reply;
 pub use reader::read_reply;
+pub use writer::append_field;
 pub use writer::write_command;

@@ -1,7 +1,11 @@
 // The reply reader.
 ghost use mathlib.Core.Path.{_≡_};
-ghost use Rattle.client.specs.Reader.{noReply, isPlain, replyOn, replyRead};
-ghost use Rattle.client.specs.Rows.{rowValue, moreReply};
+ghost use mathlib.Core.List.{[], _∷_};
+ghost use Prim.Native.Nat.{_≤_};
+ghost use lib.ListN.{length};
+ghost use Rattle.message.specs.Fields.{fieldsOf};
+ghost use Rattle.client.specs.Reader.{noReply, rowsIn, rowRead, rowsWrong, rowsRead, replyRead};
+ghost use Rattle.client.specs.Rows.{startsWithValue, valueFieldSize, rowSize, rowIn};
 use message::check_message;
 use page::Coded;
 use page::Setting;
@@ -12,7 +16,7 @@ use page::setting_of;
 use page::value_size;
 use word::number_of;
 
-// What a reply says. Zeros and no value where it is refused.
+// What a row of a reply says. Zeros and no value where it is refused.
 pub struct Reply {
     // document 01's number: 0, or why the reader refused
     pub number: u8,
@@ -23,16 +27,16 @@ pub struct Reply {
     pub value: Stored,
 }
 
-// Reads a reply that is one whole message.
-pub fn read_reply(message: &[u8]) -> Reply
-    ensures { λ r. ⌜ r ≡ replyRead (now (message .entry)) ⌝ }
+// Reads a row, counted from 0, of a reply that is one whole message.
+pub fn read_reply(message: &[u8], row: usize) -> Reply
+    ensures { λ r. ⌜ r ≡ replyRead (now (message .entry)) row ⌝ }
 {
     let number = check_message(message);
     if number != 0 {
         return no_reply(number);
     }
     let n = message.len();
-    read_payload(message[2], &message[4..n - 2])
+    read_rows(message[2], &message[4..n - 2], row)
 }
 
 fn no_reply(number: u8) -> Reply
@@ -47,85 +51,136 @@ fn no_reply(number: u8) -> Reply
     }
 }
 
-// A field 80 of size 2, and nothing or one more field behind it.
-fn read_payload(kind: u8, payload: &[u8]) -> Reply
-    ensures { λ r. ⌜ r ≡ replyOn (isPlain (now (payload .entry))) kind (now (payload .entry)) ⌝ }
+// Reads all rows, and keeps the one that is asked for.
+fn read_rows(kind: u8, payload: &[u8], row: usize) -> Reply
+    requires { ⌜ length (now payload) ≤ 255 ⌝ }
+    ensures { λ r. ⌜ r ≡ rowsRead kind (rowsIn kind (fieldsOf (now (payload .entry)))) row ⌝ }
 {
-    if payload.len() < 4 {
+    let mut kept = no_reply(27);
+    let mut n: usize = 0;
+    let mut at = 0;
+    while at < payload.len() {
+        let size = row_size(kind, &payload[at..]);
+        if size == 0 {
+            return no_reply(23);
+        }
+        if n == row {
+            kept = row_reply(kind, &payload[at..at + size]);
+        }
+        at += size;
+        n += 1;
+    }
+    if rows_wrong(kind, n) {
         return no_reply(23);
     }
-    if payload[0] != 0x80 {
-        return no_reply(23);
-    }
-    if payload[1] != 0x02 {
-        return no_reply(23);
-    }
-    let echo = payload[2];
-    let error = payload[3];
-    if payload.len() > 4 {
-        return read_more(kind, echo, error, &payload[4..]);
-    }
-    if error <= 4 {
-        return Reply {
-            number: 0,
-            kind,
-            echo,
-            error,
-            value: Stored::Absent,
-        };
-    }
-    no_reply(23)
+    kept
 }
 
-// One more field comes with type 02 and error 0 only.
-fn read_more(kind: u8, echo: u8, error: u8, row: &[u8]) -> Reply
-    ensures { λ r. ⌜ r ≡ moreReply kind echo error (now (row .entry)) ⌝ }
+// Whether so many rows in a message of this type are not a reply.
+fn rows_wrong(kind: u8, n: usize) -> bool
+    ensures { λ r. ⌜ r ≡ rowsWrong kind n ⌝ }
+{
+    if n == 0 {
+        return true;
+    }
+    if 16 < n {
+        return true;
+    }
+    if n == 1 {
+        return false;
+    }
+    if kind == 0x01 {
+        return false;
+    }
+    kind != 0x02
+}
+
+// The size of the row that `bytes` start with, its value with it; 0 where they start with none.
+fn row_size(kind: u8, bytes: &[u8]) -> usize
+    ensures { λ r. ⌜ r ≡ rowSize kind (now (bytes .entry)) ⌝ }
+{
+    if bytes.len() < 4 {
+        return 0;
+    }
+    if bytes[0] != 0x80 {
+        return 0;
+    }
+    if bytes[1] != 0x02 {
+        return 0;
+    }
+    let error = bytes[3];
+    if 4 < error {
+        return 0;
+    }
+    4 + value_field_size(kind, bytes[2], error, &bytes[4..])
+}
+
+// The size of the field at the front of `bytes` that adds a value to the echo and the error before it: in type 02 and with error 0,
+// where its code is the echo. Where it adds none, 0: it is the next row's.
+fn value_field_size(kind: u8, echo: u8, error: u8, bytes: &[u8]) -> usize
+    ensures { λ r. ⌜ (r ≡ valueFieldSize kind echo error (now (bytes .entry))) × (r ≤ 6) ⌝ }
 {
     if kind != 0x02 {
-        return no_reply(23);
+        return 0;
     }
     if error != 0 {
-        return no_reply(23);
+        return 0;
     }
     let Coded::Setting(setting) = setting_of(echo) else {
-        return no_reply(23);
+        return 0;
     };
-    let Stored::Value(x) = row_value(setting, row) else {
-        return no_reply(23);
-    };
-    Reply {
-        number: 0,
-        kind,
-        echo,
-        error,
-        value: Stored::Value(x),
+    if starts_with_value(setting, bytes) {
+        value_size(setting) + 2
+    } else {
+        0
     }
 }
 
-// The value in a setting's field, if it is one with an allowed value.
-fn row_value(setting: Setting, row: &[u8]) -> Stored
-    ensures { λ r. ⌜ r ≡ rowValue setting (now (row .entry)) ⌝ }
+// Whether `bytes` start with a field of this setting, with its value size and an allowed value.
+fn starts_with_value(setting: Setting, bytes: &[u8]) -> bool
+    ensures { λ r. ⌜ r ≡ startsWithValue setting (now (bytes .entry)) ⌝ }
 {
     let n = value_size(setting);
-    if row.len() != n + 2 {
-        return Stored::Absent;
+    if bytes.len() < n + 2 {
+        return false;
     }
-    if row[0] != code_of(setting) {
-        return Stored::Absent;
+    if bytes[0] != code_of(setting) {
+        return false;
     }
-    if wide(row[1]) != n {
-        return Stored::Absent;
+    if wide(bytes[1]) != n {
+        return false;
     }
-    let x = number_of(&row[2..]);
-    if allowed(setting, x) {
-        Stored::Value(x)
-    } else {
-        Stored::Absent
-    }
+    allowed(setting, number_of(&bytes[2..n + 2]))
 }
 
 fn wide(b: u8) -> usize
     ensures { λ r. ⌜ r ≡ b ⌝ }
 {
     b as usize
+}
+
+// What the bytes of a row say.
+fn row_reply(kind: u8, row: &[u8]) -> Reply
+    requires { ⌜ (4 ≤ length (now row)) × (length (now row) ≤ 10) ⌝ }
+    ensures { λ r. ⌜ r ≡ rowRead kind (rowIn (now (row .entry)) ∷ []) 0 ⌝ }
+{
+    Reply {
+        number: 0,
+        kind,
+        echo: row[2],
+        error: row[3],
+        value: row_value(row),
+    }
+}
+
+// The value that stands behind the four bytes of the field 80 and the next field's code and size, if the row goes on so far.
+fn row_value(row: &[u8]) -> Stored
+    requires { ⌜ length (now row) ≤ 10 ⌝ }
+    ensures { λ r. ⌜ r ≡ rowIn (now (row .entry)) .value ⌝ }
+{
+    if 6 < row.len() {
+        Stored::Value(number_of(&row[6..]))
+    } else {
+        Stored::Absent
+    }
 }

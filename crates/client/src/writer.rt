@@ -1,13 +1,16 @@
 // The command writer.
 ghost use mathlib.Core.Path.{_≡_};
+ghost use mathlib.Core.Bool.{not};
 ghost use mathlib.Core.List.{[], _∷_};
 ghost use Prim.Native.Nat.{_%_};
 ghost use Rattle.word.specs.Word.{wordBytes};
-ghost use Rattle.command.specs.declared.command.Subject.{Subject};
 ghost use Rattle.message.specs.Message.{messageOf};
-ghost use Rattle.message.specs.Write.{writingOf, plainWriting};
-ghost use Rattle.client.specs.Writer.{acceptable, fieldFor, commandWriting};
+ghost use Rattle.message.specs.Write.{refuseWriting, writingOf, plainWriting};
+ghost use Rattle.client.specs.Writer.{acceptable, fieldFor, commandWriting, behindWriting, fieldWriting};
+use command::Subject;
+use command::subject_of;
 use message::Written;
+use message::write_bytes;
 use message::write_message;
 use page::Coded;
 use page::Setting;
@@ -31,6 +34,29 @@ pub fn write_command(code: u8, function: u8, value: u32, room: &mut [u8]) -> Wri
         return write_setting(setting, function, value, room);
     }
     refused()
+}
+
+// Writes one field of a command behind the first `length` bytes of `room`, a payload to be, and answers the payload's length with it.
+// `write_message` makes a message of it, of the same type. As in a command of its own: function 1 with the value, the functions 2
+// to 5 without, Ping without both.
+pub fn append_field(
+    kind: u8,
+    code: u8,
+    function: u8,
+    value: u32,
+    length: usize,
+    room: &mut [u8],
+) -> Written
+    ensures { λ r. ⌜ record { answer = r; room = now (room .exit) } ≡ fieldWriting kind (record { code = code; function = function; value = value }) length (now (room .entry)) ⌝ }
+{
+    match subject_of(kind, code) {
+        Subject::Ping => {
+            let field = [0x02, 0x00];
+            append_bytes(&field, length, room)
+        }
+        Subject::Setting(setting) => append_setting(setting, function, value, length, room),
+        Subject::Unknown => refused(),
+    }
 }
 
 // The board does not accept the command: nothing is written.
@@ -94,6 +120,84 @@ fn write_byte(code: u8, value: u32, room: &mut [u8]) -> Written
 {
     let payload = [code, 2, 1, low(value)];
     write_message(0x02, &payload, room)
+}
+
+// Writes a field of a setting behind the first `length` bytes of `room`, where the board accepts it.
+fn append_setting(
+    setting: Setting,
+    function: u8,
+    value: u32,
+    length: usize,
+    room: &mut [u8],
+) -> Written
+    ensures { λ r. ⌜ record { answer = r; room = now (room .exit) } ≡ refuseWriting (not (acceptable (Subject.Setting setting) function value)) 28 (now (room .entry)) (behindWriting (fieldFor (Subject.Setting setting) function value) length (now (room .entry))) ⌝ }
+{
+    if !accepts(setting, function, value) {
+        return refused();
+    }
+    let code = code_of(setting);
+    if 1 < function {
+        let field = [code, 1, function];
+        return append_bytes(&field, length, room);
+    }
+    match setting {
+        Setting::Baud => append_word(code, value, length, room),
+        Setting::Accelerometer => append_byte(code, value, length, room),
+        Setting::Gyroscope => append_byte(code, value, length, room),
+    }
+}
+
+// Writes function 1 of a code with a value of four bytes behind the first `length` bytes of `room`.
+fn append_word(code: u8, value: u32, length: usize, room: &mut [u8]) -> Written
+    ensures { λ r. ⌜ record { answer = r; room = now (room .exit) } ≡ behindWriting (code ∷ 5 ∷ 1 ∷ wordBytes value) length (now (room .entry)) ⌝ }
+{
+    let field = [
+        code,
+        5,
+        1,
+        low(value / 16777216),
+        low(value / 65536),
+        low(value / 256),
+        low(value),
+    ];
+    append_bytes(&field, length, room)
+}
+
+// Writes function 1 of a code with a value of one byte behind the first `length` bytes of `room`.
+fn append_byte(code: u8, value: u32, length: usize, room: &mut [u8]) -> Written
+    ensures { λ r. ⌜ record { answer = r; room = now (room .exit) } ≡ behindWriting (code ∷ 2 ∷ 1 ∷ value % 256 ∷ []) length (now (room .entry)) ⌝ }
+{
+    let field = [code, 2, 1, low(value)];
+    append_bytes(&field, length, room)
+}
+
+// Writes bytes behind the first `length` bytes of `room`. What is left of the room is reckoned, not where the bytes would end: that
+// may be past the largest number.
+fn append_bytes(bytes: &[u8], length: usize, room: &mut [u8]) -> Written
+    ensures { λ r. ⌜ record { answer = r; room = now (room .exit) } ≡ behindWriting (now (bytes .entry)) length (now (room .entry)) ⌝ }
+{
+    let n = bytes.len();
+    if room.len() < length {
+        return no_room();
+    }
+    if room.len() - length < n {
+        return no_room();
+    }
+    write_bytes(bytes, &mut room[length..]);
+    Written {
+        number: 0,
+        length: length + n,
+    }
+}
+
+// The room does not hold it: nothing is written.
+fn no_room() -> Written
+    ensures { λ r. ⌜ r ≡ record { number = 18; length = 0 } ⌝ }
+{
+    Written {
+        number: 18,
+        length: 0,
+    }
 }
 
 // The low byte.

@@ -1,16 +1,16 @@
 -- What a command without error has passed, and what it is about.
-use mathlib.Core.Path.{_≡_, refl}
+use mathlib.Core.Path.{_≡_}
 use mathlib.Core.Bool.{Bool, true, false, _||_, not}
-use Prim.Native.Nat.{ℕ, suc, _+_, _≤_}
+use Prim.Native.Nat.{_≤_}
 use native.Mathlib.Omega.{arith}
-use lib.Dec.{eqb}
-use borrow.Author.Tests.{eqb-true, not-false}
+use borrow.Author.Tests.{not-false}
 use Rattle.message.specs.Whole.{refuse}
 use Rattle.command.specs.declared.command.Command.{Command}
 use Rattle.command.specs.declared.command.Subject.{Subject}
 use Rattle.command.specs.Command.{subjectOf}
-use Rattle.command.specs.Errors.{isUnknown, sizeRight, functionRight, valueRight, fieldWrong, errorOf}
+use Rattle.command.specs.Errors.{isUnknown, sizeRight, functionRight, valueRight, fieldWrong, fieldError}
 use Rattle.stream.proofs.Bools.{or-neither}
+use Rattle.command.proofs.Tests.{none-refused}
 
 -- The tests of a field that is not wrong.
 pub record FieldRight (subject : Subject) (c : Command) : Type 0 where
@@ -31,49 +31,24 @@ field-right subject c e =
 
 -- The tests of a command without error.
 pub record Accepted (c : Command) : Type 0 where
-  pub good : c .good ≡ true
-  pub kind : eqb (c .kind) 0x01 || eqb (c .kind) 0x02 ≡ true
-  pub some : eqb (c .length) 0 ≡ false
   pub known : isUnknown (subjectOf (c .kind) (c .code)) ≡ false
-  pub sized : c .size + 2 ≡ c .length
   pub field : FieldRight (subjectOf (c .kind) (c .code)) c
 
--- A chain of tests gives 0 only where none holds.
-none-refused : (b : Bool) (n next : ℕ) → refuse b (suc n) next ≡ 0 → (b ≡ false) × (next ≡ 0)
-none-refused false n next e = (refl, e)
-none-refused true n next e = let z : suc n ≡ 0 = e in absurd (omega arith)
-
-pub accepted : (c : Command) → errorOf c ≡ 0 → Accepted c
-unfolding errorOf
+pub accepted : (c : Command) → fieldError c ≡ 0 → Accepted c
+unfolding fieldError
 accepted c e =
     let subject = subjectOf (c .kind) (c .code) in
-    let one = none-refused (not (c .good)) 0 _ e in
-    let two = none-refused (not (eqb (c .kind) 0x01 || eqb (c .kind) 0x02)) 1 _ (one .1) in
-    let three = none-refused (eqb (c .length) 0 || isUnknown subject) 2 _ (two .1) in
-    let four = none-refused (eqb (c .length) 1 || not (eqb (c .size + 2) (c .length)) || fieldWrong subject c) 3 0 (three .1) in
-    let known = or-neither (eqb (c .length) 0) (isUnknown subject) (three .0) in
-    let f = or-neither (eqb (c .length) 1 || not (eqb (c .size + 2) (c .length))) (fieldWrong subject c) (four .0) in
-    let s = or-neither (eqb (c .length) 1) (not (eqb (c .size + 2) (c .length))) (f .0) in
-    record {
-      good = not-false (c .good) (one .0);
-      kind = not-false (eqb (c .kind) 0x01 || eqb (c .kind) 0x02) (two .0);
-      some = known .0;
-      known = known .1;
-      sized = eqb-true (c .size + 2) (c .length) (not-false (eqb (c .size + 2) (c .length)) (s .1));
-      field = field-right subject c (f .1);
-    }
+    let three = none-refused (isUnknown subject) 2 _ e in
+    let four = none-refused (fieldWrong subject c) 3 0 (three .1) in
+    record { known = three .0; field = field-right subject c (four .0) }
 
 -- ---- errors are 0 to 4
 
-pub error-most : (c : Command) → errorOf c ≤ 4
-unfolding errorOf
-error-most c =
-    go (not (c .good)) (not (eqb (c .kind) 0x01 || eqb (c .kind) 0x02)) (eqb (c .length) 0 || isUnknown (subjectOf (c .kind) (c .code)))
-    (eqb (c .length) 1 || not (eqb (c .size + 2) (c .length)) || fieldWrong (subjectOf (c .kind) (c .code)) c)
+pub error-most : (c : Command) → fieldError c ≤ 4
+unfolding fieldError
+error-most c = go (isUnknown (subjectOf (c .kind) (c .code))) (fieldWrong (subjectOf (c .kind) (c .code)) c)
   where
-    go : (a b d e : Bool) → refuse a 1 (refuse b 2 (refuse d 3 (refuse e 4 0))) ≤ 4
-    go true b d e = omega arith
-    go false true d e = omega arith
-    go false false true e = omega arith
-    go false false false true = omega arith
-    go false false false false = omega arith
+    go : (a b : Bool) → refuse a 3 (refuse b 4 0) ≤ 4
+    go true b = omega arith
+    go false true = omega arith
+    go false false = omega arith

@@ -1,30 +1,40 @@
 -- The answer to a command, case by case.
-use Prim.Native.Nat.{ℕ, zero, suc, _%_, _≤_, _<_}
+use Prim.Native.Nat.{ℕ, zero, suc, _+_, _-_, _≤_, _<_}
 use native.Mathlib.Omega.{arith}
 use mathlib.Core.Path.{_≡_, refl, sym, _∙_, ap}
-use mathlib.Core.Bool.{Bool, true, false}
-use mathlib.Core.List.{List, [], _∷_}
-use lib.ListN.{getD}
-use Rattle.word.specs.Word.{wordBytes}
+use mathlib.Core.Bool.{Bool, true, false, or-true, or-false}
+use mathlib.Core.List.{List, [], _++_, append-assoc, append-nil}
+use lib.ListN.{length, getD, take, drop, take-append-drop, List·getD-append}
+use lib.Seq.{length-take-le, take-at, drop-at, getD-drop}
+use lib.Dec.{ltb}
+use borrow.Author.Tests.{lt-ltb, le-ltb}
 use Rattle.page.specs.declared.setting.Setting.{Setting}
 use Rattle.page.specs.declared.setting.Setting.the-variants.{Baud, Accelerometer, Gyroscope}
 use Rattle.page.specs.declared.setting.Values.{Values}
-use Rattle.page.specs.Settings.{codeOf, factoryValue}
+use Rattle.page.specs.Settings.{factoryValue}
 use Rattle.page.specs.Page.{withValue}
 use Rattle.page.specs.Lookup.{valuesIn}
 use Rattle.page.specs.Sound.{PageWriting, pageWriting}
 use Rattle.message.specs.declared.write.Written.{Written}
-use Rattle.message.specs.Write.{Writing, plainWriting}
+use Rattle.message.specs.Fields.{Field, fieldsOf}
+use Rattle.message.specs.Message.{messageOf, typeOf, payloadOf}
+use Rattle.message.specs.Write.{doneWriting, sealing, putAt}
+use Rattle.message.proofs.Writes.{message-length}
 use Rattle.command.specs.declared.answer.Answer.{Answer}
-use Rattle.command.specs.declared.settings.Settings.{Settings}
-use Rattle.command.specs.declared.command.Command.{Command}
+use Rattle.command.specs.declared.place.Progress.{Progress}
 use Rattle.command.specs.declared.command.Subject.{Subject}
 use Rattle.command.specs.declared.command.Subject.the-variants.{Ping, Setting as About, Unknown}
-use Rattle.command.specs.Command.{payloadByte, commandOf, valueFor, subjectOf}
-use Rattle.command.specs.Errors.{typeError, errorOf}
-use Rattle.command.specs.Effects.{workingValue, withWorking, Fits, valueRow, functionEffect, fieldEffect, effectOn, effectOf, replyRows, replyPayload}
-use Rattle.command.specs.Answer.{loadedFrom, Answering, answerWith, answering}
-use Rattle.command.proofs.Tests.{error-type}
+use Rattle.command.specs.declared.settings.Settings.{Settings}
+use Rattle.command.specs.declared.command.Command.{Command}
+use Rattle.command.specs.Command.{valueFor, subjectOf, commandsOf}
+use Rattle.command.specs.Errors.{fieldError, messageError}
+use Rattle.command.specs.Effects.{workingValue, withWorking, Fits, valueRow, functionEffect, fieldEffect, effectOn, effectOf}
+use Rattle.command.specs.Outcome.{Outcome, receivedOf, idle, thenOutcome, replyRows, fieldsIn, effectOutcome, rowOutcome, fieldOutcome, fieldsOutcome, messageOn, messageOutcome}
+use Rattle.command.specs.Place.{Placed, stateOf, placed}
+use Rattle.command.specs.Answer.{loadedFrom, savedOn, pageAccess, replyRoom, Answering, answerWith, answerOn, answering}
+use Rattle.command.proofs.Places.{put-length, put-behind, placed-then}
+use Rattle.command.proofs.Rows.{function-row, outcomes-most, outcomes-least}
+use Rattle.command.proofs.Tests.{fields-some}
 
 -- ---- the value of a command, and its row
 
@@ -43,21 +53,8 @@ factory-fits Baud x e = omega arith
 factory-fits Accelerometer x e = omega arith
 factory-fits Gyroscope x e = omega arith
 
-module _ (s : Setting) (c : Command) (x code : ℕ) (room : List ℕ) (cs : code ≡ codeOf s) (done : Writing) where
-  pub report-word : s ≡ Baud → done ≡ plainWriting (c .kind) (replyPayload c 0 (code ∷ 4 ∷ wordBytes x)) room
-      → done ≡ plainWriting (c .kind) (replyPayload c 0 (valueRow s x)) room
-  report-word e h = h ∙ rw (cs, e)
-
-  pub report-accelerometer : s ≡ Accelerometer → done ≡ plainWriting (c .kind) (replyPayload c 0 (code ∷ 1 ∷ x % 256 ∷ [])) room
-      → done ≡ plainWriting (c .kind) (replyPayload c 0 (valueRow s x)) room
-  report-accelerometer e h = h ∙ rw (cs, e)
-
-  pub report-gyroscope : s ≡ Gyroscope → done ≡ plainWriting (c .kind) (replyPayload c 0 (code ∷ 1 ∷ x % 256 ∷ [])) room
-      → done ≡ plainWriting (c .kind) (replyPayload c 0 (valueRow s x)) room
-  report-gyroscope e h = h ∙ rw (cs, e)
-
 pub saved-page : (page after : List ℕ) (s : Setting) (x n : ℕ) (v u : Values) → v ≡ valuesIn page → u ≡ withValue v s x
-    → record { number = n; page = after } ≡ pageWriting u page → after ≡ pageWriting (withValue (valuesIn page) s x) page .page
+    → record { number = n; page = after } ≡ pageWriting u page → after ≡ savedOn page s x
 saved-page page after s x n v u p q e = ap (λ (w : PageWriting). w .page) e ∙ rw (q, p)
 
 -- ---- the settings after a function
@@ -89,94 +86,195 @@ after-none (suc (suc (suc zero))) loaded w s x n m l = refl
 after-none (suc (suc (suc (suc zero)))) loaded w s x n m l = absurd (m refl)
 after-none (suc (suc (suc (suc (suc f))))) loaded w s x n m l = absurd (omega arith)
 
--- ---- an accepted command about a setting
+-- ---- one field
 
-module _ (f : ℕ) (loaded : Setting → ℕ) (c : Command) (w : Settings) (s : Setting) (x : ℕ) (room page after : List ℕ) (a : Written) where
-  pub obey-report : f ≡ 2 → (y : ℕ) → y ≡ workingValue w s
-      → record { answer = a; room = after } ≡ plainWriting (c .kind) (replyPayload c 0 (valueRow s y)) room
-      → record { answer = record { error = 0; saved = false; length = a .length; settings = w }; room = after; page = page }
-      ≡ answerWith 0 (functionEffect f loaded w s x) c w room page
-  obey-report e y p h =
-      let q : record { answer = a; room = after } ≡ plainWriting (c .kind) (replyPayload c 0 (valueRow s (workingValue w s))) room = rw p at h in
-      rw (e, ← q)
+module _ (p : Progress) (room page : List ℕ) where
+  -- Nothing is placed.
+  pub placed-still : (r : Settings) → record { done = record { end = p .end; saved = p .saved; settings = r }; room = room; page = page }
+      ≡ placed p (record { rows = []; saved = false; next = record { settings = r; page = page } }) room
+  placed-still r =
+      let z : p .end + 0 ≡ p .end = omega arith in
+      rw (z, or-false (p .saved), append-nil (take (p .end) room), take-append-drop (p .end) room)
 
-  module _ (h : record { answer = a; room = after } ≡ plainWriting (c .kind) (replyPayload c 0 []) room) where
-    pub obey-save : f ≡ 3 → (y : ℕ) → y ≡ workingValue w s → (next : List ℕ) → next ≡ pageWriting (withValue (valuesIn page) s y) page .page
-        → record { answer = record { error = 0; saved = true; length = a .length; settings = w }; room = after; page = next }
-        ≡ answerWith 0 (functionEffect f loaded w s x) c w room page
-    obey-save e y p next q = rw (e, ← h, q, p)
+  -- The field 80 is placed.
+  pub placed-row : (q : Progress) (mid : List ℕ) (echo error : ℕ) → q ≡ record { end = p .end + 4; saved = p .saved; settings = p .settings }
+      → mid ≡ putAt (p .end) (replyRows echo error []) room
+      → record { done = q; room = mid; page = page } ≡ placed p (rowOutcome echo error (idle (stateOf p page))) room
+  placed-row q mid echo error e m = rw (e, m, or-false (p .saved))
 
-    pub obey-other : (f ≡ 2 → ⊥) → (f ≡ 3 → ⊥) → (sent : ℕ) → sent ≡ x → (r : Settings) → r ≡ functionEffect f loaded w s sent .settings
-        → record { answer = record { error = 0; saved = false; length = a .length; settings = r }; room = after; page = page }
-        ≡ answerWith 0 (functionEffect f loaded w s x) c w room page
-    obey-other n m sent es r e = rw (e, es) (only f n m)
+  -- An accepted function.
+  module _ (f : ℕ) (s : Setting) (x : ℕ) where
+    abbrev obeyed : Placed
+    obeyed = placed p (effectOutcome savedOn (functionEffect f (loadedFrom page) (p .settings) s x) (stateOf p page)) room
+
+    pub obey-report : f ≡ 2 → (y : ℕ) → y ≡ workingValue (p .settings) s → (r : ℕ) (after : List ℕ)
+        → (r ≡ p .end + length (valueRow s y)) × (after ≡ putAt (p .end) (valueRow s y) room)
+        → record { done = record { end = r; saved = p .saved; settings = p .settings }; room = after; page = page } ≡ obeyed
+    obey-report e y ys r after h = rw (e, h .0, h .1, ys, or-false (p .saved))
+
+    pub obey-save : f ≡ 3 → (y : ℕ) → y ≡ workingValue (p .settings) s → (next : List ℕ) → next ≡ savedOn page s y
+        → record { done = record { end = p .end; saved = true; settings = p .settings }; room = room; page = next } ≡ obeyed
+    obey-save e y ys next n =
+        let z : p .end + 0 ≡ p .end = omega arith in
+        rw (e, n, ys, z, or-true (p .saved), append-nil (take (p .end) room), take-append-drop (p .end) room)
+
+    pub obey-other : (f ≡ 2 → ⊥) → (f ≡ 3 → ⊥) → (sent : ℕ) → sent ≡ x → (r : Settings) → r ≡ functionEffect f (loadedFrom page) (p .settings) s sent .settings
+        → record { done = record { end = p .end; saved = p .saved; settings = r }; room = room; page = page } ≡ obeyed
+    obey-other n m sent es r e = placed-still r ∙ rw (e, es) (only f n m)
       where
         only : (f : ℕ) → (f ≡ 2 → ⊥) → (f ≡ 3 → ⊥)
-            → record { answer = record { error = 0; saved = false; length = a .length; settings = functionEffect f loaded w s x .settings }; room = after; page = page }
-            ≡ answerWith 0 (functionEffect f loaded w s x) c w room page
-        only zero n m = rw (← h)
-        only (suc zero) n m = rw (← h)
+            → placed p (record { rows = []; saved = false; next = record { settings = functionEffect f (loadedFrom page) (p .settings) s x .settings; page = page } }) room
+            ≡ placed p (effectOutcome savedOn (functionEffect f (loadedFrom page) (p .settings) s x) (stateOf p page)) room
+        only zero n m = refl
+        only (suc zero) n m = refl
         only (suc (suc zero)) n m = absurd (n refl)
         only (suc (suc (suc zero))) n m = absurd (m refl)
-        only (suc (suc (suc (suc zero)))) n m = rw (← h)
-        only (suc (suc (suc (suc (suc f))))) n m = rw (← h)
+        only (suc (suc (suc (suc zero)))) n m = refl
+        only (suc (suc (suc (suc (suc f))))) n m = refl
 
--- ---- any command
+  -- Any field.
+  module _ (c : Command) (error : ℕ) (es : error ≡ fieldError c) (q : Progress) (mid : List ℕ)
+      (e : q ≡ record { end = p .end + 4; saved = p .saved; settings = p .settings }) (m : mid ≡ putAt (p .end) (replyRows (c .code) error []) room) where
+    pub field-refused : (port : ℕ) → (error ≡ 0 → ⊥) → record { done = q; room = mid; page = page } ≡ placed p (fieldOutcome (pageAccess port) (stateOf p page) c) room
+    unfolding fieldOutcome effectOf
+    field-refused port n = placed-row q mid (c .code) error e m ∙ rw (← es) (go error n)
+      where
+        go : (n : ℕ) → (n ≡ 0 → ⊥) → placed p (rowOutcome (c .code) n (idle (stateOf p page))) room
+            ≡ placed p (rowOutcome (c .code) n (effectOutcome savedOn (effectOn n (fieldEffect (subjectOf (c .kind) (c .code)) (loadedFrom page) (p .settings) c) (p .settings)) (stateOf p page))) room
+        go zero n = absurd (n refl)
+        go (suc k) n = refl
 
-module _ (after : List ℕ) (a : Written) (reply : Writing) (h : record { answer = a; room = after } ≡ reply) where
-  pub reply-told : (error : ℕ) (w : Settings)
-      → _≡_ {A = Answer} (record { error = error; saved = false; length = a .length; settings = w }) (record { error = error; saved = false; length = reply .answer .length; settings = w })
-  reply-told error w = rw (← h)
+    pub field-ready : p .end + 10 ≤ length room → q .end + 6 ≤ length mid
+    field-ready h =
+        let l : length mid ≡ length room = ap length m ∙ put-length (p .end) (replyRows (c .code) error []) room (omega arith) in
+        let d : q .end ≡ p .end + 4 = ap (λ (p : Progress). p .end) e in
+        omega arith
 
-  pub reply-left : after ≡ reply .room
-  reply-left = rw (← h)
+    module _ (zero-error : error ≡ 0) (subject : Subject) (ss : subject ≡ subjectOf (c .kind) (c .code)) where
+      pub field-ping : (port : ℕ) → subject ≡ Ping → record { done = q; room = mid; page = page } ≡ placed p (fieldOutcome (pageAccess port) (stateOf p page) c) room
+      unfolding fieldOutcome effectOf
+      field-ping port k = placed-row q mid (c .code) error e m ∙ rw (← es, zero-error, ← ss, k)
 
-module _ (c : Command) (w : Settings) (room page : List ℕ) (error : ℕ) (es : error ≡ errorOf c) where
-  -- The answer that changes nothing.
-  abbrev still : ℕ → Answering
-  still n =
-      let reply : Writing = plainWriting (c .kind) (replyPayload c n []) room in
-      record { answer = record { error = n; saved = false; length = reply .answer .length; settings = w }; room = reply .room; page = page }
+      pub field-unknown : (port : ℕ) → subject ≡ Unknown → record { done = q; room = mid; page = page } ≡ placed p (fieldOutcome (pageAccess port) (stateOf p page) c) room
+      unfolding fieldOutcome effectOf
+      field-unknown port k = placed-row q mid (c .code) error e m ∙ rw (← es, zero-error, ← ss, k)
 
-  pub answer-refused : (error ≡ 0 → ⊥) → (a : Answer) → a ≡ still error .answer → (after : List ℕ) → after ≡ still error .room
-      → record { answer = a; room = after; page = page } ≡ answering c w room page
-  unfolding answering effectOf
-  answer-refused n a p after q = rw (p, q, ← es) (go error n)
-    where
-      go : (error : ℕ) → (error ≡ 0 → ⊥) → still error ≡ answerWith error (effectOn error (fieldEffect (subjectOf (c .kind) (c .code)) (loadedFrom page) w c) w) c w room page
-      go zero n = absurd (n refl)
-      go (suc e) n = refl
+      pub field-setting : (port : ℕ) → p .end + 10 ≤ length room → (s : Setting) → subject ≡ About s → (done : Placed)
+          → done ≡ placed q (effectOutcome savedOn (functionEffect (c .function) (loadedFrom page) (q .settings) s (valueFor s c)) (stateOf q page)) mid
+          → done ≡ placed p (fieldOutcome (pageAccess port) (stateOf p page) c) room
+      unfolding fieldOutcome effectOf
+      field-setting port h s k done d =
+          let a : Outcome (List ℕ) = rowOutcome (c .code) 0 (idle (stateOf p page)) in
+          let b : Outcome (List ℕ) = effectOutcome savedOn (functionEffect (c .function) (loadedFrom page) (p .settings) s (valueFor s c)) (stateOf p page) in
+          let r : record { done = q; room = mid; page = page } ≡ placed p a room = rw zero-error at (placed-row q mid (c .code) error e m) in
+          let l : length (b .rows) ≤ 6 = function-row (c .function) (loadedFrom page) (p .settings) s (valueFor s c) in
+          let t : placed (placed p a room .done) b (placed p a room .room) ≡ placed p (thenOutcome a b) room = placed-then p a b room (omega arith) in
+          d ∙ ap (λ (z : Placed). placed (z .done) (effectOutcome savedOn (functionEffect (c .function) (loadedFrom (z .page)) (z .done .settings) s (valueFor s c)) (stateOf (z .done) (z .page))) (z .room)) r
+          ∙ t ∙ rw (← es, zero-error, ← ss, k)
 
-  module _ (zero-error : error ≡ 0) (subject : Subject) (ss : subject ≡ subjectOf (c .kind) (c .code)) where
-    no-error : errorOf c ≡ 0
-    no-error = sym es ∙ zero-error
+-- ---- the reply sealed
 
-    pub answer-ping : subject ≡ Ping → (a : Answer) → a ≡ still 0 .answer → (after : List ℕ) → after ≡ still 0 .room
-        → record { answer = a; room = after; page = page } ≡ answering c w room page
-    unfolding answering effectOf
-    answer-ping e a p after q = rw (p, q, no-error, ← ss, e)
+module _ (kind n : ℕ) (room after : List ℕ) (a : Written) where
+  pub seal-known : (k : ℕ) → n ≡ k → record { answer = a; room = after } ≡ sealing kind k room → after ≡ sealing kind n room .room
+  seal-known k e h = rw (e, ← h)
 
-    pub answer-unknown : subject ≡ Unknown → (a : Answer) → a ≡ still 0 .answer → (after : List ℕ) → after ≡ still 0 .room
-        → record { answer = a; room = after; page = page } ≡ answering c w room page
-    unfolding answering effectOf
-    answer-unknown e a p after q = rw (p, q, no-error, ← ss, e)
+  pub seal-any : record { answer = a; room = after } ≡ sealing kind n room → after ≡ sealing kind n room .room
+  seal-any h = rw (← h)
 
-    pub answer-setting : (s : Setting) → subject ≡ About s → (done : Answering)
-        → done ≡ answerWith 0 (functionEffect (c .function) (loadedFrom page) w s (valueFor s c)) c w room page → done ≡ answering c w room page
-    unfolding answering effectOf
-    answer-setting s e done h = h ∙ rw (no-error, ← ss, e)
+-- Rows placed from byte 4 on and sealed are the reply.
+pub sealed-rows : (kind : ℕ) (rows room : List ℕ) → length rows ≤ 160 → replyRoom ≤ length room
+    → sealing kind (length rows) (putAt 4 rows room) .room ≡ doneWriting (messageOf kind rows) room .room
+unfolding sealing
+sealed-rows kind rows room few large =
+    let n : ℕ = length rows in
+    let mid : List ℕ = putAt 4 rows room in
+    let h : 4 + n ≤ length room = omega arith in
+    let ml : length mid ≡ length room = put-length 4 rows room h in
+    let fl : length (take 4 room) ≡ 4 = length-take-le 4 room (omega arith) in
+    let d : drop 4 mid ≡ rows ++ drop (4 + n) room = ap (drop 4) (append-assoc (take 4 room) rows (drop (4 + n) room)) ∙ drop-at (take 4 room) (rows ++ drop (4 + n) room) 4 fl in
+    let t : take n (drop 4 mid) ≡ rows = ap (take n) d ∙ take-at rows (drop (4 + n) room) n refl in
+    let l : length (messageOf kind rows) ≡ n + 6 = message-length kind rows in
+    let six : n + 6 ≡ 4 + n + 2 = omega arith in
+    let b : drop (n + 6) mid ≡ drop (n + 6) room = rw six (put-behind 4 rows room h 2) in
+    rw (le-ltb 255 n (omega arith), ml, le-ltb (length room) (n + 6) (omega arith), t, l, b)
+
+-- A message that is refused as a whole.
+module _ (kind echo error : ℕ) (w : Settings) (room : List ℕ) (large : replyRoom ≤ length room) (p : Progress) (mid : List ℕ)
+    (e : p ≡ record { end = 4 + 4; saved = false; settings = w }) (q : mid ≡ putAt 4 (replyRows echo error []) room) where
+  pub refused-ready : (4 ≤ p .end) × (p .end < 260) × (p .end + 2 ≤ length mid)
+  refused-ready =
+      let l : length mid ≡ length room = ap length q ∙ put-length 4 (replyRows echo error []) room (omega arith) in
+      let d : p .end ≡ 8 = ap (λ (p : Progress). p .end) e in
+      (omega arith, omega arith, omega arith)
+
+  pub refused-done : (a : Answer) → a ≡ record { saved = p .saved; settings = p .settings } → (after : List ℕ) → after ≡ sealing kind (p .end - 4) mid .room
+      → (a ≡ record { saved = false; settings = w }) × (after ≡ doneWriting (messageOf kind (replyRows echo error [])) room .room)
+  refused-done a at after left =
+      let m : p .end - 4 ≡ 4 = ap (λ (p : Progress). p .end - 4) e in
+      (rw (at, e), left ∙ rw (m, q) (sealed-rows kind (replyRows echo error []) room (omega arith) large))
+
+-- One whose fields fill its payload.
+module _ (port kind : ℕ) (w : Settings) (fs : List Field) (room page : List ℕ) (few : length fs ≤ 16) (large : replyRoom ≤ length room) where
+  abbrev filled : Outcome (List ℕ)
+  filled = fieldsOutcome (pageAccess port) (record { settings = w; page = page }) (commandsOf kind fs)
+
+  few-rows : length (filled .rows) ≤ 160
+  few-rows = omega (arith, outcomes-most (pageAccess port) (record { settings = w; page = page }) kind fs)
+
+  module _ (p : Progress) (mid next : List ℕ) (q : record { done = p; room = mid; page = next } ≡ placed (record { end = 4; saved = false; settings = w }) filled room) where
+    pub filled-ready : (4 ≤ p .end) × (p .end < 260) × (p .end + 2 ≤ length mid)
+    filled-ready =
+        let f = few-rows in
+        let d : p .end ≡ 4 + length (filled .rows) = ap (λ (q : Placed). q .done .end) q in
+        let l : length mid ≡ length room = ap (λ (q : Placed). length (q .room)) q ∙ put-length 4 (filled .rows) room (omega arith) in
+        (omega arith, omega arith, omega arith)
+
+    pub filled-done : (a : Answer) → a ≡ record { saved = p .saved; settings = p .settings } → (after : List ℕ) → after ≡ sealing kind (p .end - 4) mid .room
+        → record { answer = a; room = after; page = next } ≡ answerWith kind filled room
+    filled-done a at after left =
+        let z : 4 + length (filled .rows) - 4 ≡ length (filled .rows) = omega arith in
+        rw (at, left) (ap sealedAs q ∙ rw (z, sealed-rows kind (filled .rows) room few-rows large))
+      where
+        sealedAs : Placed → Answering
+        sealedAs q =
+            record {
+              answer = record { saved = q .done .saved; settings = q .done .settings };
+              room = sealing kind (q .done .end - 4) (q .room) .room;
+              page = q .page;
+            }
 
 -- ---- any message
 
-module _ (m : List ℕ) (good : Bool) (w : Settings) (room page : List ℕ) where
-  -- It is told by its type and its first payload byte.
-  pub answer-early : (kind : ℕ) → kind ≡ getD m 2 0 → (t : ℕ) → t ≡ typeError good kind → (t ≡ 0 → ⊥) → (echo : ℕ) → echo ≡ payloadByte m 0
-      → (a : Answer) → a ≡ record { error = t; saved = false; length = plainWriting kind (replyRows echo t []) room .answer .length; settings = w }
-      → (after : List ℕ) → after ≡ plainWriting kind (replyRows echo t []) room .room
-      → record { answer = a; room = after; page = page } ≡ answering (commandOf good m) w room page
-  unfolding commandOf
-  answer-early kind ks t ts n echo es a p after q =
-      answer-refused (commandOf good m) w room page t (error-type (commandOf good m) t (rw (← ks) ts) n) n a (rw (← ks, ← es) p) after (rw (← ks, ← es) q)
+-- The answer to a message of this type and payload.
+abbrev answerTo : ℕ → Bool → ℕ → List ℕ → Settings → List ℕ → List ℕ → Answering
+answerTo port good kind payload w room page =
+    answerOn (ltb (length room) replyRoom) kind (messageOutcome (pageAccess port) (record { settings = w; page = page }) (record { good = good; kind = kind; payload = payload })) w room page
 
-  pub answer-read : (c : Command) → c ≡ commandOf good m → (done : Answering) → done ≡ answering c w room page → done ≡ answering (commandOf good m) w room page
-  answer-read c cs done h = h ∙ ap (λ (c : Command). answering c w room page) cs
+module _ (port : ℕ) (m : List ℕ) (good : Bool) (w : Settings) (room page : List ℕ) where
+  pub answer-small : length room < 166 → record { answer = record { saved = false; settings = w }; room = room; page = page } ≡ answering port (receivedOf good m) w room page
+  unfolding answering
+  answer-small h = rw (lt-ltb (length room) 166 h)
+
+  module _ (large : 166 ≤ length room) (kind : ℕ) (ks : kind ≡ getD m 2 0) (payload : List ℕ) (ps : payload ≡ payloadOf m)
+      (error : ℕ) (es : error ≡ messageError good kind payload) where
+    told : (done : Answering) → done ≡ answerTo port good kind payload w room page → done ≡ answering port (receivedOf good m) w room page
+    unfolding answering receivedOf
+    told done h = h ∙ ap (λ (k : ℕ). answerTo port good k payload w room page) ks ∙ ap (λ (l : List ℕ). answerTo port good (typeOf m) l w room page) ps
+
+    pub answer-refused : (error ≡ 0 → ⊥) → (echo : ℕ) → echo ≡ getD payload 0 0 → (a : Answer) (after : List ℕ)
+        → (a ≡ record { saved = false; settings = w }) × (after ≡ doneWriting (messageOf kind (replyRows echo error [])) room .room)
+        → record { answer = a; room = after; page = page } ≡ answering port (receivedOf good m) w room page
+    unfolding messageOutcome
+    answer-refused n echo cs a after h =
+        told (record { answer = a; room = after; page = page }) (rw (h .0, h .1, le-ltb (length room) 166 large, ← es, cs) (go error n))
+      where
+        go : (error : ℕ) → (error ≡ 0 → ⊥) → answerWith kind (rowOutcome (getD payload 0 0) error (idle (record { settings = w; page = page }))) room
+            ≡ answerWith kind (messageOn (pageAccess port) error (record { settings = w; page = page }) kind payload) room
+        go zero n = absurd (n refl)
+        go (suc k) n = refl
+
+    pub answer-read : error ≡ 0 → (done : Answering)
+        → done ≡ answerWith kind (fieldsOutcome (pageAccess port) (record { settings = w; page = page }) (commandsOf kind (fieldsIn (fieldsOf payload)))) room
+        → done ≡ answering port (receivedOf good m) w room page
+    unfolding messageOutcome
+    answer-read z done h = told done (h ∙ rw (le-ltb (length room) 166 large, ← es, z))

@@ -1,23 +1,21 @@
--- Handling keeps the working values allowed; a save is accepted under function 3 only; the longest reply is 16 bytes.
+-- A field keeps the working values allowed; a save is accepted under function 3 only.
 use mathlib.Core.Path.{_≡_, refl, ap}
 use mathlib.Core.Bool.{Bool, true, _&&_, _||_, not}
 use mathlib.Core.Option.{some}
-use Prim.Native.Nat.{ℕ, zero, suc, _≤_}
+use Prim.Native.Nat.{ℕ, zero, suc}
 use native.Mathlib.Omega.{arith}
 use lib.Dec.{eqb}
-use lib.ListN.{length}
 use Rattle.page.specs.declared.setting.Setting.{Setting}
 use Rattle.page.specs.declared.setting.Setting.the-variants.{Baud, Accelerometer, Gyroscope}
 use Rattle.page.specs.Settings.{allowed, factoryValue}
-use Rattle.message.proofs.Writes.{message-length}
 use Rattle.command.specs.declared.settings.Settings.{Settings}
 use Rattle.command.specs.declared.command.Command.{Command}
 use Rattle.command.specs.declared.command.Subject.{Subject}
 use Rattle.command.specs.declared.command.Subject.the-variants.{Ping, Setting as About, Unknown}
 use Rattle.command.specs.Command.{valueFor, subjectOf}
-use Rattle.command.specs.Errors.{errorOf, valueRight}
-use Rattle.command.specs.Effects.{workingValue, withWorking, valueRow, functionEffect, fieldEffect, effectOn, effectOf, replyPayload, replyOf, settingsAllowed}
-use Rattle.command.specs.Theorems.{KeepsAllowed, SaveOf, SavesOnly, SavesThen, ReplyFits}
+use Rattle.command.specs.Errors.{fieldError, valueRight}
+use Rattle.command.specs.Effects.{workingValue, withWorking, functionEffect, fieldEffect, effectOn, effectOf, settingsAllowed}
+use Rattle.command.specs.Theorems.{KeepsAllowed, SaveOf, SavesOnly, SavesThen}
 use Rattle.stream.proofs.Bools.{and-both}
 use Rattle.command.proofs.Accepts.{accepted}
 
@@ -77,9 +75,9 @@ module _ (loaded : Setting → ℕ) (w : Settings) (c : Command) where
 
 pub keeps-allowed : KeepsAllowed
 unfolding effectOf
-keeps-allowed loaded w c l e = go (errorOf c) refl
+keeps-allowed loaded w c l e = go (fieldError c) refl
   where
-    go : (n : ℕ) → errorOf c ≡ n → settingsAllowed (effectOn n (fieldEffect (subjectOf (c .kind) (c .code)) loaded w c) w .settings) ≡ true
+    go : (n : ℕ) → fieldError c ≡ n → settingsAllowed (effectOn n (fieldEffect (subjectOf (c .kind) (c .code)) loaded w c) w .settings) ≡ true
     go zero p = field-keeps loaded w c (subjectOf (c .kind) (c .code)) (accepted c p .field .value) l e
     go (suc n) p = e
 
@@ -110,9 +108,9 @@ field-saves Unknown loaded w c t e = let z : _≡_ {A = ℕ} 0 1 = cc in absurd 
 
 pub saves-only : SavesOnly
 unfolding effectOf
-saves-only loaded w c s e = go (errorOf c) refl e
+saves-only loaded w c s e = go (fieldError c) refl e
   where
-    go : (n : ℕ) → errorOf c ≡ n → effectOn n (fieldEffect (subjectOf (c .kind) (c .code)) loaded w c) w .saves ≡ some s → SaveOf c s
+    go : (n : ℕ) → fieldError c ≡ n → effectOn n (fieldEffect (subjectOf (c .kind) (c .code)) loaded w c) w .saves ≡ some s → SaveOf c s
     go zero p q =
         let f = field-saves (subjectOf (c .kind) (c .code)) loaded w c s q in
         record { no-error = p; about = f .0; function = f .1 }
@@ -124,38 +122,3 @@ saved-function f loaded w s x e = rw e
 pub saves-then : SavesThen
 unfolding effectOf
 saves-then loaded w c s h = rw (h .no-error, h .about) (saved-function (c .function) loaded w s (valueFor s c) (h .function))
-
--- ---- the reply's length
-
-row-most : (s : Setting) (x : ℕ) → length (valueRow s x) ≤ 6
-row-most Baud x = omega arith
-row-most Accelerometer x = omega arith
-row-most Gyroscope x = omega arith
-
-function-row : (f : ℕ) (loaded : Setting → ℕ) (w : Settings) (s : Setting) (x : ℕ) → length (functionEffect f loaded w s x .row) ≤ 6
-function-row zero loaded w s x = omega arith
-function-row (suc zero) loaded w s x = omega arith
-function-row (suc (suc zero)) loaded w s x = row-most s (workingValue w s)
-function-row (suc (suc (suc zero))) loaded w s x = omega arith
-function-row (suc (suc (suc (suc zero)))) loaded w s x = omega arith
-function-row (suc (suc (suc (suc (suc f))))) loaded w s x = omega arith
-
-field-row : (subject : Subject) (loaded : Setting → ℕ) (w : Settings) (c : Command) → length (fieldEffect subject loaded w c .row) ≤ 6
-field-row Ping loaded w c = omega arith
-field-row (About s) loaded w c = function-row (c .function) loaded w s (valueFor s c)
-field-row Unknown loaded w c = omega arith
-
-pub effect-row : (loaded : Setting → ℕ) (w : Settings) (c : Command) → length (effectOf loaded w c .row) ≤ 6
-unfolding effectOf
-effect-row loaded w c = go (errorOf c)
-  where
-    go : (n : ℕ) → length (effectOn n (fieldEffect (subjectOf (c .kind) (c .code)) loaded w c) w .row) ≤ 6
-    go zero = field-row (subjectOf (c .kind) (c .code)) loaded w c
-    go (suc n) = omega arith
-
-pub reply-fits : ReplyFits
-unfolding replyOf
-reply-fits loaded w c =
-    let r = effect-row loaded w c in
-    let l = message-length (c .kind) (replyPayload c (errorOf c) (effectOf loaded w c .row)) in
-    omega arith

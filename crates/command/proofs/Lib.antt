@@ -1,7 +1,14 @@
+pub mod Before
 pub mod Accepts
 pub mod Answers
 pub mod Keeps
 pub mod Loads
 pub mod Pages
+pub mod Payloads
+pub mod Places
+pub mod Rests
+pub mod Rows
+pub mod Separate
 pub mod Subjects
 pub mod Tests
+pub mod Turns

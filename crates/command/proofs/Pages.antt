@@ -1,12 +1,12 @@
--- What handling does to a sound page, and the reply in a room of 16 bytes.
-use Prim.Native.Nat.{ℕ, _+_, _%_}
+-- What handling does to a sound page, and the reply in a room of 166 bytes.
+use Prim.Native.Nat.{ℕ, zero, suc, _+_, _%_, _≤_}
 use native.Mathlib.Omega.{arith}
-use mathlib.Core.Path.{_≡_, refl, _∙_, ap}
-use mathlib.Core.Bool.{true, false, _&&_}
-use mathlib.Core.List.{List, _++_}
+use mathlib.Core.Path.{_≡_, refl, sym, _∙_, ap}
+use mathlib.Core.Bool.{Bool, true, false, _&&_, _||_}
+use mathlib.Core.List.{List, [], _∷_, _++_}
 use mathlib.Core.Option.{Option, none, some}
 use lib.Dec.{ltb}
-use lib.ListN.{length, drop, length-drop, List·getD-append}
+use lib.ListN.{length, getD, drop, length-drop, length-append, List·getD-append}
 use lib.Seq.{drop-append-le, take-append-le}
 use borrow.Author.Tests.{le-ltb, eq-eqb}
 use Rattle.page.specs.declared.setting.Setting.{Setting}
@@ -15,20 +15,21 @@ use Rattle.page.specs.declared.setting.Values.{Values}
 use Rattle.page.specs.Settings.{allowed, valueBytes, factoryValue}
 use Rattle.page.specs.Page.{storedIn, storedAllowed, allAllowed, withValue, writing, pageSize}
 use Rattle.page.specs.Lookup.{valuesIn}
-use Rattle.page.specs.Sound.{pageWriting, savedPage}
+use Rattle.page.specs.Sound.{sound, pageWriting, savedPage}
 use Rattle.page.specs.Theorems.{valueOr}
 use Rattle.page.proofs.Pages.{writing-size, value-back, sound-is-writing, save-keeps, loads-stored}
-use Rattle.message.specs.Message.{messageOf, typeOf, lengthOf, payloadOf}
-use Rattle.message.specs.Write.{plainWriting}
-use Rattle.message.proofs.Writes.{message-length}
+use Rattle.message.specs.Message.{typeOf, lengthOf, payloadOf}
+use Rattle.message.specs.Fields.{fieldsOf}
 use Rattle.command.specs.declared.settings.Settings.{Settings}
-use Rattle.command.specs.Command.{commandOf}
-use Rattle.command.specs.Errors.{errorOf}
-use Rattle.command.specs.Effects.{workingValue, effectOf, replyPayload, replyOf}
-use Rattle.command.specs.Answer.{bodyValue, loadedFrom, isSave, pageAfter, answering}
-use Rattle.command.specs.Theorems.{LoadsStored, ReplyWhole, PageKept, PageChanges, AnswerKeeps, OwnBytes}
+use Rattle.command.specs.declared.command.Command.{Command}
+use Rattle.command.specs.Command.{commandsOf}
+use Rattle.command.specs.Errors.{messageError}
+use Rattle.command.specs.Effects.{workingValue, effectOf, settingsAllowed}
+use Rattle.command.specs.Outcome.{State, Outcome, Received, receivedOf, replyRows, isSave, fieldsIn, thenOutcome, pageAfter, fieldOutcome, fieldsOutcome, messageOn, messageOutcome}
+use Rattle.command.specs.Answer.{bodyValue, loadedFrom, savedOn, pageAccess, replyRoom, Answering, answerWith, answerOn, answering}
+use Rattle.command.specs.Theorems.{LoadsStored, PageChanges, Saved, savesOn, ReplyWhole, SavedIn, KeptBy, AnswerKeeps, OwnBytes}
 use Rattle.stream.proofs.Bools.{differ, and-both}
-use Rattle.command.proofs.Keeps.{value-allowed, effect-row, keeps-allowed, saves-then}
+use Rattle.command.proofs.Keeps.{value-allowed, keeps-allowed}
 
 -- ---- loading
 
@@ -68,57 +69,122 @@ page-written v page l a = rw (eq-eqb (length page) pageSize l, a)
 
 pub page-changes : PageChanges
 unfolding savedPage
-page-changes none w page h a = record { saved-page = refl; sound-page = h }
-page-changes (some s) w page h a =
-    let x : ℕ = workingValue w s in
-    let ok : allowed s x ≡ true = value-allowed w s a in
+page-changes page s x h ok =
     let i = sound-is-writing page h in
     let l : length page ≡ pageSize = ap length (i .written) ∙ writing-size (valuesIn page) in
     let v : allAllowed (withValue (valuesIn page) s x) ≡ true = put-allowed (valuesIn page) s x (i .allowed-values) ok in
-    let e : pageAfter (some s) w page ≡ savedPage page s x = page-written (withValue (valuesIn page) s x) page l v in
+    let e : savedOn page s x ≡ savedPage page s x = page-written (withValue (valuesIn page) s x) page l v in
     record { saved-page = e; sound-page = rw e (save-keeps page s x h ok .sound-page) }
 
--- ---- the reply in its room
+-- ---- a field, and a message
 
-pub reply-whole : ReplyWhole
-unfolding answering replyOf plainWriting
-reply-whole c w room page h =
-    let row = effect-row (loadedFrom page) w c in
-    let p : List ℕ = replyPayload c (errorOf c) (effectOf (loadedFrom page) w c .row) in
-    let l : length (messageOf (c .kind) p) ≡ length p + 6 = message-length (c .kind) p in
-    let short : ltb 255 (length p) ≡ false = le-ltb 255 (length p) (omega arith) in
-    let fits : ltb (length room) (length (messageOf (c .kind) p)) ≡ false = le-ltb (length room) (length (messageOf (c .kind) p)) (omega arith) in
-    record { room-after = rw (short, fits); length-told = rw (short, fits) }
+-- A sound page, and allowed working values.
+pub record Sound (x : State (List ℕ)) : Type 0 where
+  pub settings : settingsAllowed (x .settings) ≡ true
+  pub page : sound (x .page) ≡ true
+
+pub record Goes (page : List ℕ) (o : Outcome (List ℕ)) : Type 0 where
+  pub stays : Sound (o .next)
+  pub saved : SavedIn (o .saved) page (o .next .page)
+
+saved-as : (saves : Option Setting) (w : Settings) (page : List ℕ) → sound page ≡ true → settingsAllowed w ≡ true
+    → (sound (pageAfter savedOn saves w page) ≡ true) × SavedIn (isSave saves) page (pageAfter savedOn saves w page)
+saved-as none w page h a = (h, record { saves = []; written = refl; some = λ e. differ (sym e); none = λ e. refl })
+saved-as (some s) w page h a =
+    let k = page-changes page s (workingValue w s) h (value-allowed w s a) in (
+      k .sound-page,
+      record {
+        saves = record { setting = s; value = workingValue w s } ∷ [];
+        written = k .saved-page;
+        some = λ e. omega arith;
+        none = λ e. differ e;
+      },
+    )
+
+pub field-goes : (port : ℕ) (x : State (List ℕ)) (c : Command) → Sound x → Goes (x .page) (fieldOutcome (pageAccess port) x c)
+unfolding fieldOutcome
+field-goes port x c k =
+    let e = effectOf (loadedFrom (x .page)) (x .settings) c in
+    let s = saved-as (e .saves) (x .settings) (x .page) (k .page) (k .settings) in
+    record {
+      stays = record { settings = keeps-allowed (loadedFrom (x .page)) (x .settings) c (λ s. loaded-stored (x .page) s (k .page) .value-allowed) (k .settings); page = s .0 };
+      saved = s .1;
+    }
+
+idle-goes : (x : State (List ℕ)) → Sound x → (rows : List ℕ) → Goes (x .page) (record { rows = rows; saved = false; next = x })
+idle-goes x k rows = record { stays = k; saved = record { saves = []; written = refl; some = λ e. differ (sym e); none = λ e. refl } }
+
+saves-then-on : (page : List ℕ) (a b : List Saved) → savesOn (savesOn page a) b ≡ savesOn page (a ++ b)
+saves-then-on page [] b = refl
+saves-then-on page (s ∷ a) b = saves-then-on (savedPage page (s .setting) (s .value)) a b
+
+then-goes : (page : List ℕ) (a b : Outcome (List ℕ)) → Goes page a → Goes (a .next .page) b → Goes page (thenOutcome a b)
+then-goes page a b g h =
+    record {
+      stays = h .stays;
+      saved = record {
+        saves = g .saved .saves ++ h .saved .saves;
+        written = h .saved .written ∙ ap (λ (l : List ℕ). savesOn l (h .saved .saves)) (g .saved .written) ∙ saves-then-on page (g .saved .saves) (h .saved .saves);
+        some = λ e. rw length-append (either (a .saved) (b .saved) (g .saved .some) (h .saved .some) e);
+        none = λ e. neither (a .saved) (b .saved) (g .saved .none) (h .saved .none) e;
+      };
+    }
+  where
+    either : (p q : Bool) → (p ≡ true → 1 ≤ length (g .saved .saves)) → (q ≡ true → 1 ≤ length (h .saved .saves)) → p || q ≡ true
+        → 1 ≤ length (g .saved .saves) + length (h .saved .saves)
+    either true q f k e = omega (arith, f refl)
+    either false q f k e = omega (arith, k e)
+
+    neither : (p q : Bool) → (p ≡ false → g .saved .saves ≡ []) → (q ≡ false → h .saved .saves ≡ []) → p || q ≡ false
+        → g .saved .saves ++ h .saved .saves ≡ []
+    neither true q f k e = differ e
+    neither false q f k e = rw (f refl, k e)
+
+fields-go : (port : ℕ) (x : State (List ℕ)) (cs : List Command) → Sound x → Goes (x .page) (fieldsOutcome (pageAccess port) x cs)
+unfolding fieldsOutcome
+fields-go port x [] k = idle-goes x k []
+fields-go port x (c ∷ cs) k =
+    let g = field-goes port x c k in
+    then-goes (x .page) (fieldOutcome (pageAccess port) x c) (fieldsOutcome (pageAccess port) (fieldOutcome (pageAccess port) x c .next) cs) g (fields-go port (fieldOutcome (pageAccess port) x c .next) cs (g .stays))
+
+pub message-goes : (port : ℕ) (x : State (List ℕ)) (m : Received) → Sound x → Goes (x .page) (messageOutcome (pageAccess port) x m)
+unfolding messageOutcome
+message-goes port x m k = go (messageError (m .good) (m .kind) (m .payload))
+  where
+    go : (n : ℕ) → Goes (x .page) (messageOn (pageAccess port) n x (m .kind) (m .payload))
+    go zero = fields-go port x (commandsOf (m .kind) (fieldsIn (fieldsOf (m .payload)))) k
+    go (suc n) = idle-goes x k (replyRows (getD (m .payload) 0 0) (suc n) [])
 
 -- ---- an answer
 
-unsaved-page : (saves : Option Setting) (w : Settings) (page : List ℕ) → isSave saves ≡ false → pageAfter saves w page ≡ page
-unsaved-page none w page e = refl
-unsaved-page (some s) w page e = differ e
+pub answer-large : (port : ℕ) (m : Received) (w : Settings) (room page : List ℕ) → replyRoom ≤ length room
+    → answering port m w room page ≡ answerWith (m .kind) (messageOutcome (pageAccess port) (record { settings = w; page = page }) m) room
+unfolding answering
+answer-large port m w room page h = rw (le-ltb (length room) replyRoom h)
 
-saved-as : (saves : Option Setting) (s : Setting) (w : Settings) (page : List ℕ) → saves ≡ some s → PageKept saves w page
-    → (isSave saves ≡ true) × (pageAfter saves w page ≡ savedPage page s (workingValue w s))
-saved-as saves s w page e k = (rw e, k .saved-page ∙ rw e)
+pub reply-whole : ReplyWhole
+reply-whole port m w room page h = ap (λ (a : Answering). a .room) (answer-large port m w room page h)
 
 pub answer-keeps : AnswerKeeps
 unfolding answering
-answer-keeps c w room page h a =
-    let effect = effectOf (loadedFrom page) w c in
-    let k = page-changes (effect .saves) w page h a in
-    record {
-      settings-allowed = keeps-allowed (loadedFrom page) w c (λ s. loaded-stored page s h .value-allowed) a;
-      page-sound = k .sound-page;
-      unsaved = λ e. unsaved-page (effect .saves) w page e;
-      saved = λ s o. saved-as (effect .saves) s w page (saves-then (loadedFrom page) w c s o) k;
-    }
+answer-keeps port m w room page h a = go (ltb (length room) replyRoom)
+  where
+    x : State (List ℕ)
+    x = record { settings = w; page = page }
+
+    go : (b : Bool) → KeptBy page (answerOn b (m .kind) (messageOutcome (pageAccess port) (record { settings = w; page = page }) m) w room page)
+    go true = record { settings-allowed = a; page-sound = h; saved = record { saves = []; written = refl; some = λ e. differ (sym e); none = λ e. refl } }
+    go false =
+        let g = message-goes port (record { settings = w; page = page }) m (record { settings = a; page = h }) in
+        record { settings-allowed = g .stays .settings; page-sound = g .stays .page; saved = g .saved }
 
 -- ---- a message's own bytes
 
 pub own-bytes : OwnBytes
-unfolding commandOf
+unfolding receivedOf
 own-bytes good m rest h =
     let k : typeOf (m ++ rest) ≡ typeOf m = List·getD-append m rest 0 2 (omega arith) in
     let l : lengthOf (m ++ rest) ≡ lengthOf m = ap (λ (i : ℕ). i % 256) (List·getD-append m rest 0 3 (omega arith)) in
     let d : drop 4 (m ++ rest) ≡ drop 4 m ++ rest = drop-append-le 4 m rest (omega arith) in
     let p : payloadOf (m ++ rest) ≡ payloadOf m = rw (l, d) (take-append-le (lengthOf m) (drop 4 m) rest (rw length-drop (omega arith))) in
-    rw (p, k, l)
+    rw (p, k)

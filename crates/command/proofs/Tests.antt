@@ -1,10 +1,14 @@
 -- The tests of the error table, case by case.
-use Prim.Native.Nat.{ℕ, _+_, _≤_, _<_}
+use Prim.Native.Nat.{ℕ, suc, _+_, _≤_, _<_}
 use native.Mathlib.Omega.{arith}
 use mathlib.Core.Path.{_≡_, refl, sym, _∙_}
-use mathlib.Core.Bool.{Bool, true, false, _&&_, _||_, not, or-true, or-false}
-use lib.Dec.{eqb}
-use borrow.Author.Tests.{eq-eqb, ne-eqb, le-leb, lt-leb, not-true, not-false}
+use mathlib.Core.Bool.{Bool, true, false, _&&_, _||_, not, or-false}
+use mathlib.Core.List.{List, [], _∷_}
+use mathlib.Core.Option.{Option, none, some}
+use lib.Dec.{eqb, ltb}
+use lib.ListN.{length, take}
+use Rattle.stream.proofs.Bools.{differ}
+use borrow.Author.Tests.{eq-eqb, ne-eqb, le-leb, lt-leb, not-true, not-false, ltb-false}
 use Rattle.page.specs.declared.setting.Setting.{Setting}
 use Rattle.page.specs.declared.setting.Setting.the-variants.{Baud, Accelerometer, Gyroscope}
 use Rattle.page.specs.Settings.{allowed, valueSize}
@@ -13,8 +17,10 @@ use Rattle.command.specs.declared.command.Command.{Command}
 use Rattle.command.specs.declared.command.Subject.{Subject}
 use Rattle.command.specs.declared.command.Subject.the-variants.{Ping, Setting as About, Unknown}
 use Rattle.command.specs.Command.{valueFor, subjectOf}
+use Rattle.message.specs.Fields.{Field, consField, fieldsPast, fieldsOf}
 use Rattle.message.specs.Whole.{refuse}
-use Rattle.command.specs.Errors.{isUnknown, fieldWrong, typeError, fieldError, errorOf}
+use Rattle.command.specs.Errors.{isUnknown, fieldWrong, fieldError, fieldsRefused, isKind, messageError}
+use Rattle.command.specs.Outcome.{fieldsIn}
 use Rattle.command.specs.Effects.{settingsAllowed}
 
 -- ---- the size
@@ -79,74 +85,104 @@ module _ (subject : Subject) (c : Command) where
   unfolding fieldWrong
   wrong-unknown e = rw e
 
-  pub error-empty : c .length ≡ 0 → 3 ≡ fieldError subject c
+-- The field's error, with what it is about.
+module _ (c : Command) (subject : Subject) (is : subject ≡ subjectOf (c .kind) (c .code)) (u : Bool) (us : u ≡ isUnknown subject) where
+  pub error-unknown : u ≡ true → 3 ≡ fieldError c
   unfolding fieldError
-  error-empty h = rw (eq-eqb (c .length) 0 h)
+  error-unknown e = rw (← is, ← us, e)
 
-  module _ (some : c .length ≡ 0 → ⊥) (u : Bool) (us : u ≡ isUnknown subject) where
-    pub error-unknown : u ≡ true → 3 ≡ fieldError subject c
+  module _ (known : u ≡ false) (w : Bool) (ws : w ≡ fieldWrong subject c) where
+    pub error-field : w ≡ true → 4 ≡ fieldError c
     unfolding fieldError
-    error-unknown e = rw (← us, e, or-true)
+    error-field e = rw (← is, ← us, known, ← ws, e)
 
-    module _ (known : u ≡ false) where
-      pub error-one : c .length ≡ 1 → 4 ≡ fieldError subject c
-      unfolding fieldError
-      error-one h = rw (ne-eqb (c .length) 0 some, ← us, known, eq-eqb (c .length) 1 h)
-
-      module _ (more : c .length ≡ 1 → ⊥) (n : ℕ) (ns : n ≡ c .size) where
-        pub error-size : (n + 2 ≡ c .length → ⊥) → 4 ≡ fieldError subject c
-        unfolding fieldError
-        error-size h = rw (ne-eqb (c .length) 0 some, ← us, known, ne-eqb (c .length) 1 more, ne-eqb (c .size + 2) (c .length) (rw ns at h))
-
-        module _ (h : n + 2 ≡ c .length) (w : Bool) (ws : w ≡ fieldWrong subject c) where
-          pub error-field : w ≡ true → 4 ≡ fieldError subject c
-          unfolding fieldError
-          error-field e = rw (ne-eqb (c .length) 0 some, ← us, known, ne-eqb (c .length) 1 more, eq-eqb (c .size + 2) (c .length) (rw ns at h), ← ws, e)
-
-          pub error-none : w ≡ false → 0 ≡ fieldError subject c
-          unfolding fieldError
-          error-none e = rw (ne-eqb (c .length) 0 some, ← us, known, ne-eqb (c .length) 1 more, eq-eqb (c .size + 2) (c .length) (rw ns at h), ← ws, e)
+    pub error-none : w ≡ false → 0 ≡ fieldError c
+    unfolding fieldError
+    error-none e = rw (← is, ← us, known, ← ws, e)
 
 -- ---- the message
 
-module _ (good : Bool) (kind : ℕ) where
-  pub type-damaged : not good ≡ true → 1 ≡ typeError good kind
-  unfolding typeError
-  type-damaged e = rw e
+-- The error of a message as a whole, test by test.
+module _ (good : Bool) (kind : ℕ) (payload : List ℕ) where
+  pub error-damaged : not good ≡ true → 1 ≡ messageError good kind payload
+  unfolding messageError
+  error-damaged e = rw e
 
-  module _ (h : not good ≡ false) (k : Bool) (ks : k ≡ eqb kind 0x01 || eqb kind 0x02) where
-    pub type-other : k ≡ false → 2 ≡ typeError good kind
-    unfolding typeError
-    type-other e = rw (h, ← ks, e)
+  module _ (right : not good ≡ false) (k : Bool) (ks : k ≡ isKind kind) where
+    pub error-other : not k ≡ true → 2 ≡ messageError good kind payload
+    unfolding messageError
+    error-other e = rw (right, ← ks, e)
 
-    pub type-right : k ≡ true → 0 ≡ typeError good kind
-    unfolding typeError
-    type-right e = rw (h, ← ks, e)
+    module _ (known : not k ≡ false) where
+      pub error-empty : length payload ≡ 0 → 3 ≡ messageError good kind payload
+      unfolding messageError
+      error-empty h = rw (right, ← ks, known, eq-eqb (length payload) 0 h)
 
--- Two tests, and those behind them where both pass.
-module _ (a b : Bool) (next : ℕ) where
-  abbrev tested : ℕ → ℕ
-  tested n = refuse a 1 (refuse b 2 n)
+      module _ (some : length payload ≡ 0 → ⊥) (fit : Bool) (is : fit ≡ not (fieldsRefused (fieldsOf payload))) where
+        pub error-fit : fit ≡ true → 0 ≡ messageError good kind payload
+        unfolding messageError
+        error-fit e = rw (right, ← ks, known, ne-eqb (length payload) 0 some, not-true (fieldsRefused (fieldsOf payload)) (sym is ∙ e))
 
-either-refuses : (a b : Bool) (next : ℕ) → (tested a b next 0 ≡ 0 → ⊥) → tested a b next 0 ≡ tested a b next next
-either-refuses true b next n = refl
-either-refuses false true next n = refl
-either-refuses false false next n = absurd (n refl)
+        pub error-unfit : fit ≡ false → 4 ≡ messageError good kind payload
+        unfolding messageError
+        error-unfit e = rw (right, ← ks, known, ne-eqb (length payload) 0 some, not-false (fieldsRefused (fieldsOf payload)) (sym is ∙ e))
 
-both-pass : (a b : Bool) (next : ℕ) → tested a b next 0 ≡ 0 → next ≡ tested a b next next
-both-pass true b next e = absurd (omega (arith, e))
-both-pass false true next e = absurd (omega (arith, e))
-both-pass false false next e = refl
+-- A chain of tests gives 0 only where none holds.
+pub none-refused : (b : Bool) (n next : ℕ) → refuse b (suc n) next ≡ 0 → (b ≡ false) × (next ≡ 0)
+none-refused false n next e = (refl, e)
+none-refused true n next e = let z : suc n ≡ 0 = e in absurd (omega arith)
 
-module _ (c : Command) (t : ℕ) (ts : t ≡ typeError (c .good) (c .kind)) where
-  pub error-type : (t ≡ 0 → ⊥) → t ≡ errorOf c
-  unfolding errorOf typeError
-  error-type n = ts ∙ either-refuses (not (c .good)) (not (eqb (c .kind) 0x01 || eqb (c .kind) 0x02)) _ (λ z. n (ts ∙ z))
+-- A message that is not refused as a whole has passed all tests.
+pub record Passed (good : Bool) (kind : ℕ) (payload : List ℕ) : Type 0 where
+  pub good-sums : good ≡ true
+  pub kind-known : eqb kind 0x01 || eqb kind 0x02 ≡ true
+  pub some : eqb (length payload) 0 ≡ false
+  pub fit : fieldsRefused (fieldsOf payload) ≡ false
 
-  pub error-of-field : t ≡ 0 → (s : Subject) → s ≡ subjectOf (c .kind) (c .code) → (r : ℕ) → r ≡ fieldError s c → r ≡ errorOf c
-  unfolding errorOf typeError fieldError
-  error-of-field z s ss r rs =
-      rs ∙ rw ss (both-pass (not (c .good)) (not (eqb (c .kind) 0x01 || eqb (c .kind) 0x02)) _ (sym ts ∙ z))
+pub message-passed : (good : Bool) (kind : ℕ) (payload : List ℕ) → messageError good kind payload ≡ 0 → Passed good kind payload
+unfolding messageError
+message-passed good kind payload e =
+    let one = none-refused (not good) 0 _ e in
+    let two = none-refused (not (eqb kind 0x01 || eqb kind 0x02)) 1 _ (one .1) in
+    let three = none-refused (eqb (length payload) 0) 2 _ (two .1) in
+    let four = none-refused (fieldsRefused (fieldsOf payload)) 3 0 (three .1) in
+    record {
+      good-sums = not-false good (one .0);
+      kind-known = not-false (eqb kind 0x01 || eqb kind 0x02) (two .0);
+      some = three .0;
+      fit = four .0;
+    }
+
+-- Fields that are not refused are at most 16.
+pub few-fields : (o : Option (List Field)) → fieldsRefused o ≡ false → length (fieldsIn o) ≤ 16
+few-fields none e = differ e
+few-fields (some fs) e = ltb-false 16 (length fs) e
+
+-- It has 1 to 16 fields.
+pub fields-some : (good : Bool) (kind : ℕ) (payload : List ℕ) → messageError good kind payload ≡ 0
+    → (1 ≤ length (fieldsIn (fieldsOf payload))) × (length (fieldsIn (fieldsOf payload)) ≤ 16)
+unfolding fieldsOf
+fields-some good kind payload e =
+    let p = message-passed good kind payload e in
+    go payload (p .some) (fieldsPast 0 payload) refl (p .fit)
+  where
+    none-first : (f : Field) (o : Option (List Field)) → consField f o ≡ some [] → ⊥
+    none-first f none e = let z : _≡_ {A = ℕ} 0 1 = cc in absurd (omega arith)
+    none-first f (some fs) e = let z : _≡_ {A = ℕ} 0 1 = cc in absurd (omega arith)
+
+    never-none : (payload : List ℕ) → eqb (length payload) 0 ≡ false → fieldsPast 0 payload ≡ some [] → ⊥
+    never-none [] s e = let z : _≡_ {A = ℕ} 0 1 = cc in absurd (omega arith)
+    never-none (b ∷ []) s e = let z : _≡_ {A = ℕ} 0 1 = cc in absurd (omega arith)
+    never-none (b ∷ n ∷ bs) s e = none-first (record { code = b; size = n; content = take n bs }) (fieldsPast n bs) e
+
+    go : (payload : List ℕ) → eqb (length payload) 0 ≡ false → (o : Option (List Field)) → fieldsPast 0 payload ≡ o → fieldsRefused (fieldsPast 0 payload) ≡ false
+        → (1 ≤ length (fieldsIn (fieldsPast 0 payload))) × (length (fieldsIn (fieldsPast 0 payload)) ≤ 16)
+    go payload s none e r = let b : true ≡ false = rw e at r in let z : _≡_ {A = ℕ} 0 1 = cc in absurd (omega arith)
+    go payload s (some []) e r = absurd (never-none payload s e)
+    go payload s (some (f ∷ fs)) e r =
+        let b : ltb 16 (length (f ∷ fs)) ≡ false = rw e at r in
+        let l : length (f ∷ fs) ≤ 16 = ltb-false 16 (length (f ∷ fs)) b in
+        rw e (omega arith, l)
 
 module _ (kind : ℕ) where
   pub kind-one : kind ≡ 0x01 → true ≡ eqb kind 0x01 || eqb kind 0x02

@@ -1,9 +1,9 @@
--- Document 01, "Handling one message", on the board: the answer to a command, with the reply room and the page afterwards.
+-- Document 01, "Handling one message", on the board: the answer to a message, with the reply room and the page afterwards.
 use mathlib.Core.Bool.{Bool, true, false}
 use mathlib.Core.List.{List}
-use mathlib.Core.Option.{Option, none, some}
 use Prim.Native.Nat.{ℕ}
-use lib.ListN.{getD, take}
+use lib.Dec.{ltb}
+use lib.ListN.{length, getD, take}
 use Rattle.word.specs.Word.{number}
 use Rattle.page.specs.declared.setting.Setting.{Setting}
 use Rattle.page.specs.declared.setting.Setting.the-variants.{Baud, Accelerometer, Gyroscope}
@@ -11,12 +11,10 @@ use Rattle.page.specs.Settings.{codeOf}
 use Rattle.page.specs.Page.{withValue, factoryPage}
 use Rattle.page.specs.Lookup.{bodyOf, valuesIn}
 use Rattle.page.specs.Sound.{pageWriting}
-use Rattle.message.specs.Write.{Writing, plainWriting}
+use Rattle.message.specs.Write.{doneWriting}
 use Rattle.command.specs.declared.settings.Settings.{Settings}
-use Rattle.command.specs.declared.command.Command.{Command}
 use Rattle.command.specs.declared.answer.Answer.{Answer}
-use Rattle.command.specs.Errors.{errorOf}
-use Rattle.command.specs.Effects.{workingValue, Effect, effectOf, replyPayload}
+use Rattle.command.specs.Outcome.{Access, Outcome, Received, replyOf, messageOutcome}
 
 -- The value in a body: its four bytes, or its one.
 abbrev pub bodyValue : Setting → List ℕ → ℕ
@@ -32,35 +30,38 @@ loadedFrom page s = bodyValue s (bodyOf page factoryPage (codeOf s))
 unfoldable pub settingsFrom : List ℕ → Settings
 settingsFrom page = record { baud = loadedFrom page Baud; accelerometer = loadedFrom page Accelerometer; gyroscope = loadedFrom page Gyroscope }
 
--- Was a save accepted?
-abbrev pub isSave : Option Setting → Bool
-isSave none = false
-isSave (some s) = true
+-- A save puts its value in, keeps the other entries, and writes the page anew.
+abbrev pub savedOn : List ℕ → Setting → ℕ → List ℕ
+savedOn page s x = pageWriting (withValue (valuesIn page) s x) page .page
 
--- The page after an effect: a save writes it anew with the working value, and nothing else changes it.
-abbrev pub pageAfter : Option Setting → Settings → List ℕ → List ℕ
-pageAfter none w page = page
-pageAfter (some s) w page = pageWriting (withValue (valuesIn page) s (workingValue w s)) page .page
+-- What a message on this port may do with the board's page, of 64 bytes.
+abbrev pub pageAccess : ℕ → Access (List ℕ)
+pageAccess port = record { port = port; loaded = loadedFrom; save = savedOn }
 
--- The longest reply is 16 bytes. 18: a feed's room under 16 bytes.
+-- The longest reply is 166 bytes: 6, and for each of 16 fields at most 10. 18: a feed's room under that.
 abbrev pub replyRoom : ℕ
-replyRoom = 16
+replyRoom = 166
 
--- What answering a command gives: the answer, and the room and the page afterwards.
+-- What answering a message gives: the answer, and the room and the page afterwards.
 pub record Answering : Type 0 where
   pub answer : Answer
   pub room : List ℕ
   pub page : List ℕ
 
--- The answer with an error and an effect: the reply from the room's front, the effect's settings and page.
-abbrev pub answerWith : ℕ → Effect → Command → Settings → List ℕ → List ℕ → Answering
-answerWith error effect c w room page =
-    let reply : Writing = plainWriting (c .kind) (replyPayload c error (effect .row)) room in
+-- The reply from the room's front, and what the outcome leaves.
+abbrev pub answerWith : ℕ → Outcome (List ℕ) → List ℕ → Answering
+answerWith kind o room =
     record {
-      answer = record { error = error; saved = isSave (effect .saves); length = reply .answer .length; settings = effect .settings };
-      room = reply .room;
-      page = pageAfter (effect .saves) w page;
+      answer = record { saved = o .saved; settings = o .next .settings };
+      room = doneWriting (replyOf kind o) room .room;
+      page = o .next .page;
     }
 
-unfoldable pub answering : Command → Settings → List ℕ → List ℕ → Answering
-answering c w room page = answerWith (errorOf c) (effectOf (loadedFrom page) w c) c w room page
+-- In a smaller room a message is not handled.
+abbrev pub answerOn : Bool → ℕ → Outcome (List ℕ) → Settings → List ℕ → List ℕ → Answering
+answerOn true kind o w room page = record { answer = record { saved = false; settings = w }; room = room; page = page }
+answerOn false kind o w room page = answerWith kind o room
+
+unfoldable pub answering : ℕ → Received → Settings → List ℕ → List ℕ → Answering
+answering port m w room page =
+    answerOn (ltb (length room) replyRoom) (m .kind) (messageOutcome (pageAccess port) (record { settings = w; page = page }) m) w room page

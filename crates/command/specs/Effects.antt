@@ -6,13 +6,12 @@ use Prim.Native.Nat.{ℕ, zero, suc, _<_}
 use Rattle.page.specs.declared.setting.Setting.{Setting}
 use Rattle.page.specs.declared.setting.Setting.the-variants.{Baud, Accelerometer, Gyroscope}
 use Rattle.page.specs.Settings.{codeOf, allowed, valueBytes, valueSize, factoryValue}
-use Rattle.message.specs.Message.{messageOf}
 use Rattle.command.specs.declared.settings.Settings.{Settings}
 use Rattle.command.specs.declared.command.Command.{Command}
 use Rattle.command.specs.declared.command.Subject.{Subject}
 use Rattle.command.specs.declared.command.Subject.the-variants.{Ping, Setting as About, Unknown}
 use Rattle.command.specs.Command.{valueFor, subjectOf}
-use Rattle.command.specs.Errors.{errorOf}
+use Rattle.command.specs.Errors.{fieldError}
 
 -- ---- the working settings
 
@@ -68,24 +67,10 @@ fieldEffect Ping loaded w c = leaving w
 fieldEffect (About s) loaded w c = functionEffect (c .function) loaded w s (valueFor s c)
 fieldEffect Unknown loaded w c = leaving w
 
--- ---- one message
-
 -- A command with an error changes nothing.
 abbrev pub effectOn : ℕ → Effect → Settings → Effect
 effectOn zero e w = e
 effectOn (suc n) e w = leaving w
 
 unfoldable pub effectOf : (Setting → ℕ) → Settings → Command → Effect
-effectOf loaded w c = effectOn (errorOf c) (fieldEffect (subjectOf (c .kind) (c .code)) loaded w c) w
-
--- One field 80 with size 2, echo and error; an accepted function 2 adds a second field.
-abbrev pub replyRows : ℕ → ℕ → List ℕ → List ℕ
-replyRows echo error row = 0x80 ∷ 0x02 ∷ echo ∷ error ∷ row
-
--- The reply's payload. The echo is the first payload byte, or 0 if L = 0.
-abbrev pub replyPayload : Command → ℕ → List ℕ → List ℕ
-replyPayload c error row = replyRows (c .code) error row
-
--- The reply has the received type.
-unfoldable pub replyOf : (Setting → ℕ) → Settings → Command → List ℕ
-replyOf loaded w c = messageOf (c .kind) (replyPayload c (errorOf c) (effectOf loaded w c .row))
+effectOf loaded w c = effectOn (fieldError c) (fieldEffect (subjectOf (c .kind) (c .code)) loaded w c) w

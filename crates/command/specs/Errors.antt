@@ -1,8 +1,12 @@
--- Document 01, "Handling one message": the errors, first that applies.
+-- Document 01, "Handling one message", and request 02: the errors, first that applies; of a message as a whole, and of a field.
 use mathlib.Core.Bool.{Bool, true, false, _&&_, _||_, not}
+use mathlib.Core.List.{List}
+use mathlib.Core.Option.{Option, none, some}
 use Prim.Native.Nat.{ℕ, _+_}
-use lib.Dec.{eqb, leb}
+use lib.Dec.{eqb, leb, ltb}
+use lib.ListN.{length}
 use Rattle.page.specs.Settings.{allowed, valueSize}
+use Rattle.message.specs.Fields.{Field, fieldsOf}
 use Rattle.message.specs.Whole.{refuse}
 use Rattle.command.specs.declared.command.Command.{Command}
 use Rattle.command.specs.declared.command.Subject.{Subject}
@@ -37,27 +41,40 @@ valueRight Ping c = true
 valueRight (About s) c = not (eqb (c .function) 1) || allowed s (valueFor s c)
 valueRight Unknown c = false
 
--- A field's own error, once the message has passed the tests before it: size, function, value.
+-- A field's own error, once its code is known: size, function, value.
 unfoldable pub fieldWrong : Subject → Command → Bool
 fieldWrong subject c = not (sizeRight subject c) || not (functionRight subject c) || not (valueRight subject c)
 
--- 1: sums wrong. 2: type neither 01 nor 02. 3: L = 0, or the code is not one of this type's. 4: L = 1; size is not L - 2;
--- size wrong; function not 1 to 5; value not allowed. 0: otherwise.
-unfoldable pub errorOf : Command → ℕ
-errorOf c =
-    refuse (not (c .good)) 1
-    (refuse (not (eqb (c .kind) 0x01 || eqb (c .kind) 0x02)) 2
-    (refuse (eqb (c .length) 0 || isUnknown (subjectOf (c .kind) (c .code))) 3
-    (refuse (eqb (c .length) 1 || not (eqb (c .size + 2) (c .length)) || fieldWrong (subjectOf (c .kind) (c .code)) c) 4
-    0)))
+-- ---- one field
 
--- The first two tests of that chain, which need nothing of the payload.
-unfoldable pub typeError : Bool → ℕ → ℕ
-typeError good kind = refuse (not good) 1 (refuse (not (eqb kind 0x01 || eqb kind 0x02)) 2 0)
-
--- The last two tests of that chain, which an inner function of the code makes.
-unfoldable pub fieldError : Subject → Command → ℕ
-fieldError subject c =
-    refuse (eqb (c .length) 0 || isUnknown subject) 3
-    (refuse (eqb (c .length) 1 || not (eqb (c .size + 2) (c .length)) || fieldWrong subject c) 4
+-- 3: the code is not one of this type's. 4: size wrong; function not 1 to 5; value not allowed. 0: otherwise.
+unfoldable pub fieldError : Command → ℕ
+fieldError c =
+    refuse (isUnknown (subjectOf (c .kind) (c .code))) 3
+    (refuse (fieldWrong (subjectOf (c .kind) (c .code)) c) 4
     0)
+
+-- ---- one message, before any code
+
+-- A message carries 1 to 16 fields.
+abbrev pub mostFields : ℕ
+mostFields = 16
+
+-- Fields do not fill the payload exactly, or are more than 16.
+abbrev pub fieldsRefused : Option (List Field) → Bool
+fieldsRefused none = true
+fieldsRefused (some fs) = ltb mostFields (length fs)
+
+-- The type is 01 or 02.
+abbrev pub isKind : ℕ → Bool
+isKind kind = eqb kind 0x01 || eqb kind 0x02
+
+-- 1: sums wrong. 2: type neither 01 nor 02. 3: L = 0. 4: fields do not fill the payload exactly, or are more than 16. 0: each field
+-- has its own error.
+unfoldable pub messageError : Bool → ℕ → List ℕ → ℕ
+messageError good kind payload =
+    refuse (not good) 1
+    (refuse (not (isKind kind)) 2
+    (refuse (eqb (length payload) 0) 3
+    (refuse (fieldsRefused (fieldsOf payload)) 4
+    0)))

@@ -1,5 +1,8 @@
 pub mod Answer
+pub mod Before
 pub mod Command
 pub mod Effects
 pub mod Errors
+pub mod Outcome
+pub mod Place
 pub mod Theorems

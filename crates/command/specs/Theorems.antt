@@ -1,9 +1,9 @@
 -- What is proved of handling, beyond the contracts of the code. The proofs stand in proofs/.
 use mathlib.Core.Path.{_≡_}
 use mathlib.Core.Bool.{Bool, true, false}
-use mathlib.Core.List.{List, _++_}
-use mathlib.Core.Option.{Option, none, some}
-use Prim.Native.Nat.{ℕ, _+_, _≤_}
+use mathlib.Core.List.{List, [], _∷_, _++_}
+use mathlib.Core.Option.{none, some}
+use Prim.Native.Nat.{ℕ, zero, suc, _+_, _≤_}
 use lib.ListN.{length, drop}
 use Rattle.page.specs.declared.setting.Setting.{Setting}
 use Rattle.page.specs.Settings.{allowed, factoryValue}
@@ -11,45 +11,74 @@ use Rattle.page.specs.Page.{storedIn}
 use Rattle.page.specs.Lookup.{valuesIn}
 use Rattle.page.specs.Sound.{sound, savedPage}
 use Rattle.page.specs.Theorems.{valueOr}
+use Rattle.message.specs.Fields.{Field, fieldBytes, fieldsOf}
+use Rattle.message.specs.Message.{messageOf, typeOf, lengthOf, payloadOf}
 use Rattle.command.specs.declared.settings.Settings.{Settings}
 use Rattle.command.specs.declared.command.Command.{Command}
-use Rattle.message.specs.Message.{lengthOf}
 use Rattle.command.specs.declared.command.Subject.the-variants.{Setting as About}
-use Rattle.command.specs.Command.{commandOf, subjectOf}
-use Rattle.command.specs.Errors.{errorOf}
-use Rattle.command.specs.Effects.{workingValue, effectOf, replyOf, settingsAllowed}
-use Rattle.command.specs.Answer.{loadedFrom, pageAfter, answering, replyRoom}
+use Rattle.command.specs.Command.{subjectOf}
+use Rattle.command.specs.Errors.{fieldError, messageError}
+use Rattle.command.specs.Effects.{effectOf, settingsAllowed}
+use Rattle.command.specs.Outcome.{Access, State, Outcome, Received, receivedOf, replyOf, idle, thenOutcome, fieldOutcome, messageOutcome}
+use Rattle.command.specs.Answer.{loadedFrom, savedOn, pageAccess, replyRoom, Answering, answering}
 
--- Handling keeps the working values allowed, whatever the command, if what is loaded is allowed.
+-- ---- several fields in one message
+
+-- Messages handled one after the other, each on what those before it left.
+abbrev pub inTurn : {P : Type 0} → Access P → State P → List Received → Outcome P
+inTurn access x [] = idle x
+inTurn access x (m ∷ ms) = thenOutcome (messageOutcome access x m) (inTurn access (messageOutcome access x m .next) ms)
+
+-- Separate messages of the same type, one for each field in order.
+abbrev pub separate : ℕ → List Field → List Received
+separate kind [] = []
+separate kind (f ∷ fs) = receivedOf true (messageOf kind (fieldBytes f)) ∷ separate kind fs
+
+-- A message of several fields leaves the settings and the page that separate messages would leave; its reply carries the
+-- separate replies' fields in that order; a save is marked where one of them marks it.
+abbrev pub AsSeparate : Type 1
+AsSeparate =
+    (P : Type 0) (access : Access P) (x : State P) (m : List ℕ) (fs : List Field) → messageError true (typeOf m) (payloadOf m) ≡ 0
+    → fieldsOf (payloadOf m) ≡ some fs → messageOutcome access x (receivedOf true m) ≡ inTurn access x (separate (typeOf m) fs)
+
+-- Sixteen reports of the baud rate.
+abbrev pub times : ℕ → List ℕ → List ℕ
+times zero bs = []
+times (suc n) bs = bs ++ times n bs
+
+abbrev pub sixteenReports : Received
+sixteenReports = record { good = true; kind = 0x02; payload = times 16 (0x01 ∷ 0x01 ∷ 0x02 ∷ []) }
+
+-- The longest reply is 166 bytes: none is longer, and one is as long.
+pub record LongestReply : Type 1 where
+  pub most : (P : Type 0) (access : Access P) (x : State P) (m : Received) → length (replyOf (m .kind) (messageOutcome access x m)) ≤ replyRoom
+  pub reached : (P : Type 0) (access : Access P) (x : State P) → length (replyOf 0x02 (messageOutcome access x sixteenReports)) ≡ replyRoom
+
+-- Two keepings of the page's values give the same replies and save marks, and stay related, for every message, where they do
+-- for every field.
+pub record Alike {P Q : Type 0} (R : State P → State Q → Type 0) (a : Outcome P) (b : Outcome Q) : Type 0 where
+  pub rows : a .rows ≡ b .rows
+  pub saved : a .saved ≡ b .saved
+  pub next : R (a .next) (b .next)
+
+abbrev pub FieldsAlike : Type 1
+FieldsAlike =
+    (P Q : Type 0) (s : Access P) (t : Access Q) (R : State P → State Q → Type 0)
+    → ((x : State P) (y : State Q) (c : Command) → R x y → Alike R (fieldOutcome s x c) (fieldOutcome t y c))
+    → (x : State P) (y : State Q) (m : Received) → R x y → Alike R (messageOutcome s x m) (messageOutcome t y m)
+
+-- ---- one field
+
+-- It keeps the working values allowed, whatever the command, if what is loaded is allowed.
 abbrev pub KeepsAllowed : Type 0
 KeepsAllowed =
     (loaded : Setting → ℕ) (w : Settings) (c : Command) → ((s : Setting) → allowed s (loaded s) ≡ true)
     → settingsAllowed w ≡ true → settingsAllowed (effectOf loaded w c .settings) ≡ true
 
--- What is loaded from a sound page is the value that it holds, or the factory value where it has none, and it is allowed.
-pub record LoadedValue (page : List ℕ) (s : Setting) : Type 0 where
-  pub value : loadedFrom page s ≡ valueOr (storedIn (valuesIn page) s) (factoryValue s)
-  pub value-allowed : allowed s (loadedFrom page s) ≡ true
-
-abbrev pub LoadsStored : Type 0
-LoadsStored = (page : List ℕ) (s : Setting) → sound page ≡ true → LoadedValue page s
-
--- The longest reply is 16 bytes.
-abbrev pub ReplyFits : Type 0
-ReplyFits = (loaded : Setting → ℕ) (w : Settings) (c : Command) → length (replyOf loaded w c) ≤ replyRoom
-
--- In a room of 16 bytes the reply is written whole, from the room's front, and nothing else of the room is touched.
-pub record ReplyWritten (c : Command) (w : Settings) (room page : List ℕ) : Type 0 where
-  pub room-after : answering c w room page .room ≡ replyOf (loadedFrom page) w c ++ drop (length (replyOf (loadedFrom page) w c)) room
-  pub length-told : answering c w room page .answer .length ≡ length (replyOf (loadedFrom page) w c)
-
-abbrev pub ReplyWhole : Type 0
-ReplyWhole = (c : Command) (w : Settings) (room page : List ℕ) → replyRoom ≤ length room → ReplyWritten c w room page
-
 -- A save of a setting is accepted where there is no error, the command is about that setting and its function is 3, and
 -- nowhere else.
 pub record SaveOf (c : Command) (s : Setting) : Type 0 where
-  pub no-error : errorOf c ≡ 0
+  pub no-error : fieldError c ≡ 0
   pub about : subjectOf (c .kind) (c .code) ≡ About s
   pub function : c .function ≡ 3
 
@@ -59,31 +88,64 @@ SavesOnly = (loaded : Setting → ℕ) (w : Settings) (c : Command) (s : Setting
 abbrev pub SavesThen : Type 0
 SavesThen = (loaded : Setting → ℕ) (w : Settings) (c : Command) (s : Setting) → SaveOf c s → effectOf loaded w c .saves ≡ some s
 
-abbrev pub savedOr : Option Setting → Settings → List ℕ → List ℕ
-savedOr none w page = page
-savedOr (some s) w page = savedPage page s (workingValue w s)
+-- ---- the board's page
 
--- The page changes on an accepted save and on nothing else, and stays sound: the working value is put in, and the other
--- entries are kept.
-pub record PageKept (saves : Option Setting) (w : Settings) (page : List ℕ) : Type 0 where
-  pub saved-page : pageAfter saves w page ≡ savedOr saves w page
-  pub sound-page : sound (pageAfter saves w page) ≡ true
+-- What is loaded from a sound page is the value that it holds, or the factory value where it has none, and it is allowed.
+pub record LoadedValue (page : List ℕ) (s : Setting) : Type 0 where
+  pub value : loadedFrom page s ≡ valueOr (storedIn (valuesIn page) s) (factoryValue s)
+  pub value-allowed : allowed s (loadedFrom page s) ≡ true
+
+abbrev pub LoadsStored : Type 0
+LoadsStored = (page : List ℕ) (s : Setting) → sound page ≡ true → LoadedValue page s
+
+-- A save on a sound page puts an allowed value in, keeps the other entries, and leaves a sound page.
+pub record PageKept (page : List ℕ) (s : Setting) (x : ℕ) : Type 0 where
+  pub saved-page : savedOn page s x ≡ savedPage page s x
+  pub sound-page : sound (savedOn page s x) ≡ true
 
 abbrev pub PageChanges : Type 0
-PageChanges = (saves : Option Setting) (w : Settings) (page : List ℕ) → sound page ≡ true → settingsAllowed w ≡ true → PageKept saves w page
+PageChanges = (page : List ℕ) (s : Setting) (x : ℕ) → sound page ≡ true → allowed s x ≡ true → PageKept page s x
 
--- Answering a command on a sound page with allowed settings keeps both so. The page changes where a save is marked, to the
--- page with the working value of the saved setting put in, and nowhere else.
-pub record Kept (c : Command) (w : Settings) (room page : List ℕ) : Type 0 where
-  pub settings-allowed : settingsAllowed (answering c w room page .answer .settings) ≡ true
-  pub page-sound : sound (answering c w room page .page) ≡ true
-  pub unsaved : answering c w room page .answer .saved ≡ false → answering c w room page .page ≡ page
-  pub saved : (s : Setting) → SaveOf c s
-      → (answering c w room page .answer .saved ≡ true) × (answering c w room page .page ≡ savedPage page s (workingValue w s))
+-- Values put in one after the other.
+pub record Saved : Type 0 where
+  pub setting : Setting
+  pub value : ℕ
+
+abbrev pub savesOn : List ℕ → List Saved → List ℕ
+savesOn page [] = page
+savesOn page (s ∷ ss) = savesOn (savedPage page (s .setting) (s .value)) ss
+
+-- ---- the answer to a message
+
+abbrev pub replyTo : ℕ → Received → Settings → List ℕ → List ℕ
+replyTo port m w page = replyOf (m .kind) (messageOutcome (pageAccess port) (record { settings = w; page = page }) m)
+
+-- In a room of 166 bytes the reply is written whole, from the room's front, and nothing else of the room is touched. Proof: Pages
+-- `reply-whole`.
+abbrev pub ReplyWhole : Type 0
+ReplyWhole =
+    (port : ℕ) (m : Received) (w : Settings) (room page : List ℕ) → replyRoom ≤ length room
+    → answering port m w room page .room ≡ replyTo port m w page ++ drop (length (replyTo port m w page)) room
+
+-- The page after some saves, of which there is one where a save is marked.
+pub record SavedIn (saved : Bool) (page after : List ℕ) : Type 0 where
+  pub saves : List Saved
+  pub written : after ≡ savesOn page saves
+  pub some : saved ≡ true → 1 ≤ length saves
+  pub none : saved ≡ false → saves ≡ []
+
+-- Answering a message on a sound page with allowed settings keeps both so. The page changes where a save is marked, to the
+-- page with the saved values put in, and nowhere else. Proof: Pages `answer-keeps`.
+pub record KeptBy (page : List ℕ) (a : Answering) : Type 0 where
+  pub settings-allowed : settingsAllowed (a .answer .settings) ≡ true
+  pub page-sound : sound (a .page) ≡ true
+  pub saved : SavedIn (a .answer .saved) page (a .page)
 
 abbrev pub AnswerKeeps : Type 0
-AnswerKeeps = (c : Command) (w : Settings) (room page : List ℕ) → sound page ≡ true → settingsAllowed w ≡ true → Kept c w room page
+AnswerKeeps =
+    (port : ℕ) (m : Received) (w : Settings) (room page : List ℕ) → sound page ≡ true → settingsAllowed w ≡ true
+    → KeptBy page (answering port m w room page)
 
--- A message is handled by its own bytes: what follows it changes nothing.
+-- A message is handled by its own bytes: what follows it changes nothing. Proof: Pages `own-bytes`.
 abbrev pub OwnBytes : Type 0
-OwnBytes = (good : Bool) (m rest : List ℕ) → length m ≡ lengthOf m + 6 → commandOf good (m ++ rest) ≡ commandOf good m
+OwnBytes = (good : Bool) (m rest : List ℕ) → length m ≡ lengthOf m + 6 → receivedOf good (m ++ rest) ≡ receivedOf good m

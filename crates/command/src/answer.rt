@@ -1,89 +1,46 @@
-// The answer to a command: the reply, and what becomes of the settings and the page.
+// The answer to a message: the reply, and what becomes of the settings and the page.
 ghost use mathlib.Core.Path.{_≡_};
 ghost use mathlib.Core.Bool.{false};
-ghost use mathlib.Core.List.{[], _∷_, _++_};
-ghost use Prim.Native.Nat.{_%_};
-ghost use Rattle.page.specs.Lookup.{valuesIn};
-ghost use Rattle.page.specs.Page.{withValue};
-ghost use Rattle.page.specs.Sound.{pageWriting};
-ghost use Rattle.message.specs.Write.{plainWriting};
-ghost use Rattle.word.specs.Word.{wordBytes};
-ghost use Rattle.command.specs.Answer.{loadedFrom, answerWith, answering};
-ghost use Rattle.command.specs.Command.{valueFor, commandOf};
-ghost use Rattle.command.specs.Effects.{Fits, valueRow, functionEffect, replyRows, replyPayload};
+ghost use mathlib.Core.List.{[], _++_};
+ghost use Prim.Native.Nat.{_+_, _-_, _≤_, _<_};
+ghost use lib.ListN.{length, take, drop};
+ghost use Rattle.message.specs.Fields.{fieldsOf};
+ghost use Rattle.message.specs.Message.{messageOf};
+ghost use Rattle.message.specs.Write.{doneWriting, sealing};
+ghost use Rattle.command.specs.Answer.{loadedFrom, savedOn, pageAccess, replyRoom, answerWith, answering};
+ghost use Rattle.command.specs.Command.{valueFor, commandsOf};
+ghost use Rattle.command.specs.Effects.{Fits, functionEffect};
+ghost use Rattle.command.specs.Errors.{fieldsRefused};
+ghost use Rattle.command.specs.Outcome.{receivedOf, replyRows, effectOutcome, fieldOutcome, fieldsOutcome, fieldsIn};
+ghost use Rattle.command.specs.Place.{stateOf, placed};
 use crate::command::Command;
 use crate::command::Subject;
-use crate::command::command_over;
-use crate::command::echo_over;
+use crate::command::command_at;
+use crate::command::count_of;
 use crate::command::subject_of;
-use crate::errors::error_of;
-use crate::errors::type_error;
+use crate::errors::field_error;
 use crate::errors::value_for;
+use crate::fields::echo_of;
+use crate::fields::message_error;
+use crate::fields::payload_end;
+use crate::place::Progress;
+use crate::place::put_row;
+use crate::place::put_value;
 use crate::settings::Settings;
 use crate::settings::loaded_from;
-use message::Written;
 use message::byte_over;
 use page::Setting;
 
+// What a message leaves, beside the reply and the page.
 pub struct Answer {
-    // document 01's error
-    pub error: u8,
     // whether a save was accepted
     pub saved: bool,
-    // the reply's length, 0 where the room is too small for it
-    pub length: usize,
     pub settings: Settings,
-}
-
-// The reply without a value.
-fn write_plain(kind: u8, echo: u8, error: u8, room: &mut [u8]) -> Written
-    ensures { λ r. ⌜ record { answer = r; room = now (room .exit) } ≡ plainWriting kind (replyRows echo error []) (now (room .entry)) ⌝ }
-{
-    let rows = [0x80, 0x02, echo, error];
-    message::write_message(kind, &rows, room)
-}
-
-// The reply with a value of one byte, and of four.
-fn write_byte(c: Command, code: u8, value: u32, room: &mut [u8]) -> Written
-    ensures { λ r. ⌜ record { answer = r; room = now (room .exit) } ≡ plainWriting (c .kind) (replyPayload c 0 (code ∷ 1 ∷ value % 256 ∷ [])) (now (room .entry)) ⌝ }
-{
-    let rows = [0x80, 0x02, c.code, 0, code, 1, (value % 256) as u8];
-    message::write_message(c.kind, &rows, room)
-}
-
-fn write_word(c: Command, code: u8, value: u32, room: &mut [u8]) -> Written
-    ensures { λ r. ⌜ record { answer = r; room = now (room .exit) } ≡ plainWriting (c .kind) (replyPayload c 0 (code ∷ 4 ∷ wordBytes value)) (now (room .entry)) ⌝ }
-{
-    let rows = [
-        0x80,
-        0x02,
-        c.code,
-        0,
-        code,
-        4,
-        (value / 16777216 % 256) as u8,
-        (value / 65536 % 256) as u8,
-        (value / 256 % 256) as u8,
-        (value % 256) as u8,
-    ];
-    message::write_message(c.kind, &rows, room)
-}
-
-// The reply with the working value of a setting.
-fn write_report(c: Command, setting: Setting, value: u32, room: &mut [u8]) -> Written
-    ensures { λ r. ⌜ record { answer = r; room = now (room .exit) } ≡ plainWriting (c .kind) (replyPayload c 0 (valueRow setting value)) (now (room .entry)) ⌝ }
-{
-    let code = page::code_of(setting);
-    match setting {
-        Setting::Baud => write_word(c, code, value, room),
-        Setting::Accelerometer => write_byte(c, code, value, room),
-        Setting::Gyroscope => write_byte(c, code, value, room),
-    }
 }
 
 // Puts a value in, keeps the page's other entries, and writes the page anew.
 fn save(setting: Setting, value: u32, page: &mut [u8])
-    ensures { λ _. ⌜ now (page .exit) ≡ pageWriting (withValue (valuesIn (now (page .entry))) setting value) (now (page .entry)) .page ⌝ }
+    ensures { λ _. ⌜ now (page .exit) ≡ savedOn (now (page .entry)) setting value ⌝ }
 {
     let values = page::values_of(page);
     page::write_page(page::with_value(values, setting, value), page);
@@ -106,73 +63,156 @@ fn settings_after(function: u8, setting: Setting, sent: u32, w: Settings, page: 
     w.with(setting, page::factory_value(setting))
 }
 
-// The answer that changes nothing.
-fn unchanged(kind: u8, echo: u8, error: u8, w: Settings, room: &mut [u8]) -> Answer
-    ensures { λ r. ⌜ r ≡ record { error = error; saved = false; length = plainWriting kind (replyRows echo error []) (now (room .entry)) .answer .length; settings = w } ⌝ }
-    ensures { λ _. ⌜ now (room .exit) ≡ plainWriting kind (replyRows echo error []) (now (room .entry)) .room ⌝ }
-{
-    let reply = write_plain(kind, echo, error, room);
-    Answer {
-        error,
-        saved: false,
-        length: reply.length,
-        settings: w,
-    }
-}
-
-// An accepted command about a setting.
-fn obey(c: Command, setting: Setting, w: Settings, room: &mut [u8], page: &mut [u8]) -> Answer
-    ensures { λ r. ⌜ record { answer = r; room = now (room .exit); page = now (page .exit) } ≡ answerWith 0 (functionEffect (c .function) (loadedFrom (now (page .entry))) w setting (valueFor setting c)) c w (now (room .entry)) (now (page .entry)) ⌝ }
+// An accepted command about a setting, whose field 80 stands in the room.
+fn obey(c: Command, setting: Setting, p: Progress, room: &mut [u8], page: &mut [u8]) -> Progress
+    requires { ⌜ p .end + 6 ≤ length (now room) ⌝ }
+    ensures { λ r. ⌜ record { done = r; room = now (room .exit); page = now (page .exit) } ≡ placed p (effectOutcome savedOn (functionEffect (c .function) (loadedFrom (now (page .entry))) (p .settings) setting (valueFor setting c)) (stateOf p (now (page .entry)))) (now (room .entry)) ⌝ }
 {
     let function = c.function;
-    let working = w.value(setting);
-    let sent = value_for(setting, c);
+    let settings = p.settings;
+    let end = p.end;
+    let working = settings.value(setting);
     if function == 2 {
-        let reply = write_report(c, setting, working, room);
-        return Answer {
-            error: 0,
-            saved: false,
-            length: reply.length,
-            settings: w,
+        return Progress {
+            end: put_value(setting, working, end, room),
+            saved: p.saved,
+            settings,
         };
     }
-    let reply = write_plain(c.kind, c.code, 0, room);
     if function == 3 {
         save(setting, working, page);
-        return Answer {
-            error: 0,
+        return Progress {
+            end,
             saved: true,
-            length: reply.length,
-            settings: w,
+            settings,
         };
     }
-    Answer {
-        error: 0,
-        saved: false,
-        length: reply.length,
-        settings: settings_after(function, setting, sent, w, page),
+    Progress {
+        end,
+        saved: p.saved,
+        settings: settings_after(function, setting, value_for(setting, c), settings, page),
     }
 }
 
-// Answers a command: writes the reply to the front of `room` and, where a save is accepted, the page.
-fn answer_command(c: Command, w: Settings, room: &mut [u8], page: &mut [u8]) -> Answer
-    ensures { λ r. ⌜ record { answer = r; room = now (room .exit); page = now (page .exit) } ≡ answering c w (now (room .entry)) (now (page .entry)) ⌝ }
+// Answers one field: puts its rows behind those before it and, where a save is accepted, writes the page.
+fn answer_field(port: u8, c: Command, p: Progress, room: &mut [u8], page: &mut [u8]) -> Progress
+    requires { ⌜ p .end + 10 ≤ length (now room) ⌝ }
+    ensures { λ r. ⌜ record { done = r; room = now (room .exit); page = now (page .exit) } ≡ placed p (fieldOutcome (pageAccess port) (stateOf p (now (page .entry))) c) (now (room .entry)) ⌝ }
 {
-    let error = error_of(c);
+    let error = field_error(c);
+    let q = put_row(c.code, error, p, room);
     if error != 0 {
-        return unchanged(c.kind, c.code, error, w, room);
+        return q;
     }
     match subject_of(c.kind, c.code) {
-        Subject::Ping => unchanged(c.kind, c.code, 0, w, room),
-        Subject::Setting(s) => obey(c, s, w, room, page),
-        Subject::Unknown => unchanged(c.kind, c.code, 0, w, room),
+        Subject::Ping => q,
+        Subject::Setting(s) => obey(c, s, q, room, page),
+        Subject::Unknown => q,
     }
 }
 
-// Answers the message at the front of `held` and then `chunk`. The settings, the room and the page are taken as they are: a
-// feed has tested them. A message that is damaged or of another type is answered by its type and first payload byte alone, so
-// that noise and data messages are answered without a look at the rest.
+// Answers the fields that fill the bytes `from..to` of `held` and then `chunk`, in a message of type `kind`.
+fn answer_fields(
+    port: u8,
+    held: &[u8],
+    chunk: &[u8],
+    kind: u8,
+    from: usize,
+    to: usize,
+    start: Progress,
+    room: &mut [u8],
+    page: &mut [u8],
+) -> Progress
+    requires { ⌜ (from ≤ to) × (to < 65536) × (to ≤ length (now held) + length (now chunk)) × (fieldsRefused (fieldsOf (drop from (take to (now held ++ now chunk)))) ≡ false) × (start .end + 160 ≤ length (now room)) ⌝ }
+    ensures { λ r. ⌜ record { done = r; room = now (room .exit); page = now (page .exit) } ≡ placed start (fieldsOutcome (pageAccess port) (stateOf start (now (page .entry))) (commandsOf kind (fieldsIn (fieldsOf (drop from (take to (now (held .entry) ++ now (chunk .entry)))))))) (now (room .entry)) ⌝ }
+{
+    let mut at = from;
+    let mut p = start;
+    while at < to {
+        let c = command_at(held, chunk, kind, at);
+        p = answer_field(port, c, p, room, page);
+        at += 2 + count_of(c.size);
+    }
+    p
+}
+
+// Seals the reply whose `n` bytes of rows stand in the room. Most replies have one row, without a value or with one of one or four
+// bytes: with the length a constant the sums go faster.
+fn seal(kind: u8, n: usize, room: &mut [u8])
+    ensures { λ _. ⌜ now (room .exit) ≡ sealing kind n (now (room .entry)) .room ⌝ }
+{
+    if n == 4 {
+        message::seal_message(kind, 4, room);
+        return;
+    }
+    if n == 7 {
+        message::seal_message(kind, 7, room);
+        return;
+    }
+    if n == 10 {
+        message::seal_message(kind, 10, room);
+        return;
+    }
+    message::seal_message(kind, n, room);
+}
+
+// The answer whose rows stand in the room from byte 4 up to `p.end`: writes the header in front of them and the sums behind.
+fn sealed(kind: u8, p: Progress, room: &mut [u8]) -> Answer
+    requires { ⌜ (4 ≤ p .end) × (p .end < 260) × (p .end + 2 ≤ length (now room)) ⌝ }
+    ensures { λ r. ⌜ r ≡ record { saved = p .saved; settings = p .settings } ⌝ }
+    ensures { λ _. ⌜ now (room .exit) ≡ sealing kind (p .end - 4) (now (room .entry)) .room ⌝ }
+{
+    let settings = p.settings;
+    seal(kind, p.end - 4, room);
+    Answer {
+        saved: p.saved,
+        settings,
+    }
+}
+
+// Answers a message that is refused as a whole: one row, and nothing changes.
+fn answer_refused(kind: u8, echo: u8, error: u8, w: Settings, room: &mut [u8]) -> Answer
+    requires { ⌜ replyRoom ≤ length (now room) ⌝ }
+    ensures { λ r. ⌜ (r ≡ record { saved = false; settings = w }) × (now (room .exit) ≡ doneWriting (messageOf kind (replyRows echo error [])) (now (room .entry)) .room) ⌝ }
+{
+    let start = Progress {
+        end: 4,
+        saved: false,
+        settings: w,
+    };
+    let p = put_row(echo, error, start, room);
+    sealed(kind, p, room)
+}
+
+// Answers a message whose payload, which ends at `to`, is filled by its fields.
+fn answer_filled(
+    port: u8,
+    held: &[u8],
+    chunk: &[u8],
+    kind: u8,
+    to: usize,
+    w: Settings,
+    room: &mut [u8],
+    page: &mut [u8],
+) -> Answer
+    requires { ⌜ (4 ≤ to) × (to < 65536) × (to ≤ length (now held) + length (now chunk)) × (fieldsRefused (fieldsOf (drop 4 (take to (now held ++ now chunk)))) ≡ false) × (replyRoom ≤ length (now room)) ⌝ }
+    ensures { λ r. ⌜ record { answer = r; room = now (room .exit); page = now (page .exit) } ≡ answerWith kind (fieldsOutcome (pageAccess port) (record { settings = w; page = now (page .entry) }) (commandsOf kind (fieldsIn (fieldsOf (drop 4 (take to (now (held .entry) ++ now (chunk .entry)))))))) (now (room .entry)) ⌝ }
+{
+    let start = Progress {
+        end: 4,
+        saved: false,
+        settings: w,
+    };
+    let p = answer_fields(port, held, chunk, kind, 4, to, start, room, page);
+    sealed(kind, p, room)
+}
+
+// Answers the message at the front of `held` and then `chunk`, which came on `port`. The settings, the room and the page are
+// taken as they are: a feed has tested them. In a room under 166 bytes nothing is done. A message that is damaged or of another
+// type is answered by its type and first payload byte alone, so that noise and data messages are answered without a look at
+// the rest.
 pub fn answer_over(
+    port: u8,
     held: &[u8],
     chunk: &[u8],
     good: bool,
@@ -180,12 +220,19 @@ pub fn answer_over(
     room: &mut [u8],
     page: &mut [u8],
 ) -> Answer
-    ensures { λ r. ⌜ record { answer = r; room = now (room .exit); page = now (page .exit) } ≡ answering (commandOf good (now (held .entry) ++ now (chunk .entry))) w (now (room .entry)) (now (page .entry)) ⌝ }
+    ensures { λ r. ⌜ record { answer = r; room = now (room .exit); page = now (page .exit) } ≡ answering port (receivedOf good (now (held .entry) ++ now (chunk .entry))) w (now (room .entry)) (now (page .entry)) ⌝ }
 {
-    let kind = byte_over(held, chunk, 2);
-    let error = type_error(good, kind);
-    if error != 0 {
-        return unchanged(kind, echo_over(held, chunk), error, w, room);
+    if room.len() < 166 {
+        return Answer {
+            saved: false,
+            settings: w,
+        };
     }
-    answer_command(command_over(held, chunk, good), w, room, page)
+    let kind = byte_over(held, chunk, 2);
+    let to = payload_end(held, chunk);
+    let error = message_error(held, chunk, good, kind, to);
+    if error != 0 {
+        return answer_refused(kind, echo_of(held, chunk, to), error, w, room);
+    }
+    answer_filled(port, held, chunk, kind, to, w, room, page)
 }

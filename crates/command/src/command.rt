@@ -1,21 +1,18 @@
-// What a message asks for: the few bytes of it that handling looks at.
+// A command: one field of a message, as handling sees it.
 ghost use mathlib.Core.Path.{_≡_};
 ghost use mathlib.Core.List.{_++_};
-ghost use Prim.Native.Nat.{_%_, _<_};
+ghost use Prim.Native.Nat.{_<_, _+_};
 ghost use lib.ListN.{getD, take, drop};
-ghost use Rattle.command.specs.Command.{payloadByte, commandOf, subjectOf};
+ghost use Rattle.command.specs.Command.{commandOf, subjectOf};
+ghost use Rattle.command.specs.Place.{fieldAt};
 use message::byte_over;
 use page::Coded;
 use page::Setting;
 
-// A message as handling sees it. What the payload does not have is 0.
+// A field, with the type of its message. What its data do not have is 0.
 pub struct Command {
-    // whether the sums are right
-    pub good: bool,
     // the type
     pub kind: u8,
-    // L, the payload's length
-    pub length: usize,
     pub code: u8,
     pub size: u8,
     pub function: u8,
@@ -31,56 +28,51 @@ pub enum Subject {
     Unknown,
 }
 
-fn length_from(l: u8) -> usize
-    ensures { λ r. ⌜ r ≡ l % 256 ⌝ }
+// A byte as a number of bytes.
+pub(crate) fn count_of(n: u8) -> usize
+    ensures { λ r. ⌜ (r ≡ n) × (r < 256) ⌝ }
 {
-    l as usize
+    n as usize
 }
 
-// Byte `i` of a payload of `l` bytes, in the message at the front of `held` and then `chunk`: 0 where there is none.
-fn payload_byte(held: &[u8], chunk: &[u8], l: usize, i: usize) -> u8
-    requires { ⌜ i < 7 ⌝ }
-    ensures { λ r. ⌜ r ≡ getD (take l (drop 4 (now (held .entry) ++ now (chunk .entry)))) i 0 ⌝ }
+// Byte `i` of the `n` bytes from `at` on in `held` and then `chunk`: 0 where there is none.
+fn data_byte(held: &[u8], chunk: &[u8], at: usize, n: usize, i: usize) -> u8
+    requires { ⌜ at + i < 4294967296 ⌝ }
+    ensures { λ r. ⌜ r ≡ getD (take n (drop at (now (held .entry) ++ now (chunk .entry)))) i 0 ⌝ }
 {
-    if i < l {
-        byte_over(held, chunk, 4 + i)
+    if i < n {
+        byte_over(held, chunk, at + i)
     } else {
         0
     }
 }
 
-// The first payload byte of the message at the front of `held` and then `chunk`, or 0 if L = 0: what a reply echoes.
-pub(crate) fn echo_over(held: &[u8], chunk: &[u8]) -> u8
-    ensures { λ r. ⌜ r ≡ payloadByte (now (held .entry) ++ now (chunk .entry)) 0 ⌝ }
+// The field whose code stands at `at` in `held` and then `chunk`.
+pub(crate) fn command_at(held: &[u8], chunk: &[u8], kind: u8, at: usize) -> Command
+    requires { ⌜ at < 65536 ⌝ }
+    ensures { λ r. ⌜ r ≡ commandOf kind (fieldAt at (now (held .entry) ++ now (chunk .entry))) ⌝ }
 {
-    let l = length_from(byte_over(held, chunk, 3));
-    payload_byte(held, chunk, l, 0)
-}
-
-// The message at the front of `held` and then `chunk`.
-pub(crate) fn command_over(held: &[u8], chunk: &[u8], good: bool) -> Command
-    ensures { λ r. ⌜ r ≡ commandOf good (now (held .entry) ++ now (chunk .entry)) ⌝ }
-{
-    let l = length_from(byte_over(held, chunk, 3));
-    let first = payload_byte(held, chunk, l, 3);
+    let size = byte_over(held, chunk, at + 1);
+    let n = count_of(size);
+    let data = at + 2;
+    let first = data_byte(held, chunk, data, n, 1);
     Command {
-        good,
-        kind: byte_over(held, chunk, 2),
-        length: l,
-        code: payload_byte(held, chunk, l, 0),
-        size: payload_byte(held, chunk, l, 1),
-        function: payload_byte(held, chunk, l, 2),
+        kind,
+        code: byte_over(held, chunk, at),
+        size,
+        function: data_byte(held, chunk, data, n, 0),
         first,
         all: word::word_of(
             first,
-            payload_byte(held, chunk, l, 4),
-            payload_byte(held, chunk, l, 5),
-            payload_byte(held, chunk, l, 6),
+            data_byte(held, chunk, data, n, 2),
+            data_byte(held, chunk, data, n, 3),
+            data_byte(held, chunk, data, n, 4),
         ),
     }
 }
 
-pub(crate) fn subject_of(kind: u8, code: u8) -> Subject
+// What a code is about in a message of this type.
+pub fn subject_of(kind: u8, code: u8) -> Subject
     ensures { λ r. ⌜ r ≡ subjectOf kind code ⌝ }
 {
     if kind == 0x01 {

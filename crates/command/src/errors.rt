@@ -1,10 +1,10 @@
-// The error of a command, first that applies.
+// The errors that need no look at a payload: of a message by its sums and type, and of a field.
 ghost use mathlib.Core.Path.{_≡_};
 ghost use mathlib.Core.Bool.{_&&_, _||_, not};
 ghost use lib.Dec.{eqb};
 ghost use Rattle.command.specs.Command.{valueFor};
 ghost use Rattle.command.specs.Effects.{Fits};
-ghost use Rattle.command.specs.Errors.{isUnknown, fieldWrong, typeError, fieldError, errorOf};
+ghost use Rattle.command.specs.Errors.{isUnknown, fieldWrong, isKind, fieldError};
 ghost use Rattle.command.specs.declared.command.Subject.the-variants.{Setting as About};
 use crate::command::Command;
 use crate::command::Subject;
@@ -81,50 +81,23 @@ fn is_unknown(subject: Subject) -> bool
     }
 }
 
-// 3 or 4 where the field of a good message of type 01 or 02 is refused.
-fn field_error(subject: Subject, c: Command) -> u8
-    ensures { λ r. ⌜ r ≡ fieldError subject c ⌝ }
+// The error of one field.
+pub(crate) fn field_error(c: Command) -> u8
+    ensures { λ r. ⌜ r ≡ fieldError c ⌝ }
 {
-    if c.length == 0 {
-        return 3;
-    }
+    let subject = subject_of(c.kind, c.code);
     if is_unknown(subject) {
         return 3;
-    }
-    if c.length == 1 {
-        return 4;
-    }
-    if sized(c.size) + 2 != c.length {
-        return 4;
     }
     if field_wrong(subject, c) { 4 } else { 0 }
 }
 
-fn is_kind(kind: u8) -> bool
-    ensures { λ r. ⌜ r ≡ eqb kind 0x01 || eqb kind 0x02 ⌝ }
+// The type is 01 or 02.
+pub(crate) fn is_kind(kind: u8) -> bool
+    ensures { λ r. ⌜ r ≡ isKind kind ⌝ }
 {
     if kind == 0x01 {
         return true;
     }
     kind == 0x02
-}
-
-// 1 or 2 where the sums or the type refuse a message, 0 where both pass: the tests that need nothing of its payload.
-pub(crate) fn type_error(good: bool, kind: u8) -> u8
-    ensures { λ r. ⌜ r ≡ typeError good kind ⌝ }
-{
-    if !good {
-        return 1;
-    }
-    if is_kind(kind) { 0 } else { 2 }
-}
-
-pub(crate) fn error_of(c: Command) -> u8
-    ensures { λ r. ⌜ r ≡ errorOf c ⌝ }
-{
-    let error = type_error(c.good, c.kind);
-    if error != 0 {
-        return error;
-    }
-    field_error(subject_of(c.kind, c.code), c)
 }

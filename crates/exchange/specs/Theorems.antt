@@ -3,19 +3,39 @@
 use mathlib.Core.Bool.{true}
 use mathlib.Core.List.{List}
 use mathlib.Core.Path.{_≡_}
-use Prim.Native.Nat.{ℕ}
-use Rattle.command.specs.Answer.{loadedFrom, answerWith}
-use Rattle.command.specs.Command.{commandOf}
-use Rattle.client.specs.Writer.{codeSubject, acceptable, commandMessage}
-use Rattle.client.specs.Theorems.{effectFor}
+use Prim.Native.Nat.{ℕ, _≤_}
+use lib.ListN.{length}
+use Rattle.message.specs.Message.{messageOf}
+use Rattle.command.specs.Errors.{mostFields}
+use Rattle.command.specs.Outcome.{State, Outcome, rowOutcome, effectOutcome}
+use Rattle.command.specs.Answer.{loadedFrom, savedOn, pageAccess, answerWith}
+use Rattle.client.specs.Writer.{codeSubject, kindFor, acceptable, commandMessage, Asked}
+use Rattle.client.specs.Commands.{effectFor, askedOutcomes, askedFields, allRight}
 use Rattle.board.specs.declared.board.Board.{Board}
-use Rattle.board.specs.Feed.{feedOn, feedOf}
+use Rattle.board.specs.Feed.{Feeding, feedOn, feedOf}
 use Rattle.board.specs.Alone.{Ready, answeredStep}
 
--- What the command writer writes, fed to a port that holds nothing, is answered at once: without error, and with exactly the
--- effect of its code, function and value. Proof: Calls `call-obeys`.
+-- The board's settings, with the page.
+abbrev pub stateOf : Board → List ℕ → State (List ℕ)
+stateOf b page = record { settings = b .settings; page = page }
+
+-- A message taken whole, and answered with this outcome.
+abbrev pub answeredWith : ℕ → Board → List ℕ → ℕ → List ℕ → Outcome (List ℕ) → Feeding
+answeredWith port b room kind m o = feedOn (answeredStep m (answerWith kind o room)) port b
+
+-- A message of 1 to 16 fields, each written for what the board accepts, and fed to a port that holds nothing, is answered at once:
+-- without error, and with exactly the effects that are asked for, in order. Proof: Calls `call-obeys`.
 abbrev pub CallObeys : Type 0
 CallObeys =
+    (port : ℕ) (b : Board) (room page : List ℕ) (kind : ℕ) (as′ : List Asked) → Ready port b room page
+    → allRight kind as′ ≡ true → 1 ≤ length as′ → length as′ ≤ mostFields
+    → feedOf port b (messageOf kind (askedFields kind as′)) room page
+    ≡ answeredWith port b room kind (messageOf kind (askedFields kind as′)) (askedOutcomes (pageAccess port) kind (stateOf b page) as′)
+
+-- So is what the command writer writes, with exactly the effect of its code, function and value. Proof: Calls `writer-obeyed`.
+abbrev pub WriterObeyed : Type 0
+WriterObeyed =
     (port : ℕ) (b : Board) (room page : List ℕ) (code function value : ℕ) → Ready port b room page → acceptable (codeSubject code) function value ≡ true
     → feedOf port b (commandMessage code function value) room page
-    ≡ feedOn (answeredStep (commandMessage code function value) (answerWith 0 (effectFor (codeSubject code) (loadedFrom page) (b .settings) function value) (commandOf true (commandMessage code function value)) (b .settings) room page)) port b
+    ≡ answeredWith port b room (kindFor (codeSubject code)) (commandMessage code function value)
+    (rowOutcome code 0 (effectOutcome savedOn (effectFor (codeSubject code) (loadedFrom page) (b .settings) function value) (stateOf b page)))

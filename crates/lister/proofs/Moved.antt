@@ -38,11 +38,11 @@ module _ (bytes : List ℕ) (old : ℕ) (w : Settings) (chunk room page : List �
       let d = length-drop (resume k n good) (held ++ take (k + n - length held) chunk) in
       record { inside = omega (arith, s .inside); fewer = λ _. omega (arith, s .inside, held-few) }
 
-  step-moves : (s : Sought) → seek front (held ++ chunk) ≡ s → Fine (inPlace (stepOn s held w chunk room page) .step)
+  step-moves : (s : Sought) → seek front (held ++ chunk) ≡ s → Fine (inPlace (stepOn 0 s held w chunk room page) .step)
   step-moves (Found k n good) e = found-moves k n good e
   step-moves (Starved k) e = record { inside = omega arith; fewer = λ z. let w : ⊥ = omega arith in absurd w }
 
-  place-moves : (m : ℕ) → Fine (placeOn m bytes old w chunk room page .step)
+  place-moves : (m : ℕ) → Fine (placeOn m 0 bytes old w chunk room page .step)
   unfolding stepOf
   place-moves zero = step-moves (seek front (held ++ chunk)) refl
   place-moves (suc m) = record { inside = omega arith; fewer = λ z. let w : ⊥ = omega arith in absurd w }

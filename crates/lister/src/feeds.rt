@@ -1,6 +1,8 @@
 // The feeds of a listing.
 ghost use Rattle.lister.specs.Moves.{Moves};
-use crate::output::gather_line;
+use crate::output::gather_rows;
+use crate::output::kind_of;
+use crate::output::payload_of;
 use board::Port;
 use command::Settings;
 use std::num::wrapping_add_u64;
@@ -36,21 +38,18 @@ impl Progress {
         }
     }
 
-    // One feed, and the line of the message that it finds.
-    fn feed(self, bytes: &mut [u8], chunk: &[u8], page: &mut [u8], out: &mut [u8]) -> Self
+    // One feed, and the lines of the message that it finds.
+    fn feed(
+        self,
+        bytes: &mut [u8],
+        chunk: &[u8],
+        reply: &mut [u8],
+        page: &mut [u8],
+        out: &mut [u8],
+    ) -> Self
         ensures { λ r. ⌜ Moves (self .held) (now (chunk .entry)) (r .number) (r .last) (r .held) ⌝ }
     {
-        let mut reply = [0u8; Port::REPLY];
-        let fed = board::feed_in_place(
-            0,
-            bytes,
-            self.held,
-            0,
-            self.settings,
-            chunk,
-            &mut reply,
-            page,
-        );
+        let fed = board::feed_in_place(0, bytes, self.held, 0, self.settings, chunk, reply, page);
         let settings = fed.settings;
         Progress {
             held: fed.held,
@@ -59,16 +58,16 @@ impl Progress {
             skipped: wrapping_add_u64(self.skipped, fed.skipped as u64),
             number: fed.number,
             last: fed.taken,
-            used: gather_found(fed.number, &reply, fed.saved, self.used, out),
+            used: gather_found(fed.number, reply, fed.saved, self.used, out),
         }
     }
 }
 
-fn gather_found(number: u8, reply: &[u8; 16], saved: bool, used: usize, out: &mut [u8]) -> usize {
+fn gather_found(number: u8, reply: &[u8], saved: bool, used: usize, out: &mut [u8]) -> usize {
     if number != 0 {
         return used;
     }
-    gather_line(reply, saved, used, out)
+    gather_rows(kind_of(reply), payload_of(reply), saved, used, out)
 }
 
 // Feeds a piece until a feed answers 1. That a feed which answers 0 leaves fewer bytes, held or in the piece, is in the
@@ -80,10 +79,11 @@ pub(crate) fn feed_all(
     page: &mut [u8],
     out: &mut [u8],
 ) -> Progress {
+    let mut reply = [0u8; Port::REPLY];
     let mut p = start;
     let mut at = 0;
     loop {
-        p = p.feed(bytes, &piece[at..], page, out);
+        p = p.feed(bytes, &piece[at..], &mut reply, page, out);
         if p.number != 0 {
             return p;
         }

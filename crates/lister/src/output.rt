@@ -5,7 +5,9 @@ ghost use mathlib.Core.Path.{_≡_};
 ghost use lib.ListN.{length};
 
 // The first `n` bytes, all where there are fewer: in a caller's proof nothing is left to show.
-fn prefix(s: &[u8], n: usize) -> &[u8] {
+fn prefix(s: &[u8], n: usize) -> &[u8]
+    ensures { λ r. ⌜ length (now r) ≤ n ⌝ }
+{
     if s.len() < n {
         return s;
     }
@@ -35,10 +37,42 @@ pub(crate) fn gather_heading(out: &mut [u8]) -> usize {
     listing::write_heading(out).length
 }
 
-// The line of a message whose reply is `reply`: its type is byte 2, its echo byte 6, its error byte 7.
-pub(crate) fn gather_line(reply: &[u8; 16], saved: bool, used: usize, out: &mut [u8]) -> usize {
+// The type of a reply, and its payload, of at most 255 bytes.
+pub(crate) fn kind_of(reply: &[u8]) -> u8 {
+    if reply.len() < 4 { 0 } else { reply[2] }
+}
+
+pub(crate) fn payload_of(reply: &[u8]) -> &[u8]
+    ensures { λ r. ⌜ length (now r) ≤ 255 ⌝ }
+{
+    if reply.len() < 4 {
+        return &reply[..0];
+    }
+    prefix(&reply[4..], count_of(reply[3]))
+}
+
+fn count_of(n: u8) -> usize
+    ensures { λ r. ⌜ r ≤ 255 ⌝ }
+{
+    n as usize
+}
+
+// The lines of a message whose reply has this type and payload, one for each row: byte 2 of a row is the echo, byte 3 the error.
+pub(crate) fn gather_rows(kind: u8, rows: &[u8], saved: bool, start: usize, out: &mut [u8]) -> usize
+    requires { ⌜ length (now rows) ≤ 255 ⌝ }
+{
+    let mut used = start;
+    let mut at = 0;
+    while at + 3 < rows.len() {
+        used = gather_line(kind, rows[at + 2], rows[at + 3], saved, used, out);
+        at += listing::row_size(&rows[at..]);
+    }
+    used
+}
+
+fn gather_line(kind: u8, echo: u8, error: u8, saved: bool, used: usize, out: &mut [u8]) -> usize {
     let from = with_room(listing::LONGEST_LINE, used, out);
-    let written = listing::write_line(reply[2], reply[6], reply[7], saved, &mut out[from..]);
+    let written = listing::write_line(kind, echo, error, saved, &mut out[from..]);
     from + written.length
 }
 

@@ -1,3 +1,4 @@
 pub mod Put
+pub mod Rows
 pub mod Text
 pub mod Theorems

@@ -1,5 +1,5 @@
 -- Fields that fill a payload are its bytes, and are read back.
-use Prim.Native.Nat.{ℕ, zero, suc, _+_, _≤_}
+use Prim.Native.Nat.{ℕ, zero, suc, _≤_, _<_}
 use native.Mathlib.Omega.{arith}
 use mathlib.Core.Path.{_≡_, refl, _∙_, sym}
 use mathlib.Core.List.{List, [], _∷_, _++_}
@@ -30,7 +30,19 @@ pub fields-fill : FieldsFill
 unfolding fieldsOf
 fields-fill payload fs e = let r = fill-past 0 payload fs e in (r .1, r .2)
 
-past-all : (xs ys : List ℕ) → fieldsPast (length xs) (xs ++ ys) ≡ fieldsPast 0 ys
+-- ---- passing some bytes
+
+pub past-there : (p : ℕ) (bs : List ℕ) → p ≤ length bs → fieldsPast p bs ≡ fieldsPast 0 (drop p bs)
+past-there zero bs h = refl
+past-there (suc p) [] h = absurd (omega arith)
+past-there (suc p) (b ∷ bs) h = past-there p bs (omega arith)
+
+pub past-short : (p : ℕ) (bs : List ℕ) → length bs < p → fieldsPast p bs ≡ none
+past-short zero bs h = absurd (omega arith)
+past-short (suc p) [] h = refl
+past-short (suc p) (b ∷ bs) h = past-short p bs (omega arith)
+
+pub past-all : (xs ys : List ℕ) → fieldsPast (length xs) (xs ++ ys) ≡ fieldsPast 0 ys
 past-all [] ys = refl
 past-all (x ∷ xs) ys = past-all xs ys
 

@@ -19,4 +19,5 @@ pub use window::front_over;
 pub use window::seek_held;
 pub use window::seek_over;
 pub use write::Written;
+pub use write::seal_message;
 pub use write::write_message;

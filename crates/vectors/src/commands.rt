@@ -1,4 +1,4 @@
-// The verbs on the controller's side: command, reply.
+// The verbs on the controller's side: command, append, reply, row.
 ghost use Prim.Native.Nat.{_≤_};
 ghost use lib.ListN.{length};
 use crate::messages;
@@ -16,8 +16,14 @@ pub(crate) fn outcome(verb: &[u8], args: &[u8], out: Output) -> Output {
     if text::same(verb, b"command") {
         return command(args, out);
     }
+    if text::same(verb, b"append") {
+        return append(args, out);
+    }
     if text::same(verb, b"reply") {
-        return reply(args, out);
+        return reply(args, 0, out);
+    }
+    if text::same(verb, b"row") {
+        return row(args, out);
     }
     pages::outcome(verb, args, out)
 }
@@ -59,12 +65,76 @@ fn write_front(code: u8, function: u8, value: u32, room: &mut [u8], n: usize) ->
     client::write_command(code, function, value, &mut room[0..n])
 }
 
-fn reply(args: &[u8], out: Output) -> Output {
+fn append(args: &[u8], out: Output) -> Output {
+    let Octet::Value(kind) = text::read_octet(text::first_word(args)) else {
+        return out.bad_line();
+    };
+    let second = text::other_words(args);
+    let Octet::Value(code) = text::read_octet(text::first_word(second)) else {
+        return out.bad_line();
+    };
+    let third = text::other_words(second);
+    let Octet::Value(function) = text::read_small(text::first_word(third)) else {
+        return out.bad_line();
+    };
+    append_with(kind, code, function, text::other_words(third), out)
+}
+
+// The value, the length of the payload so far and the room's length are still to be read.
+fn append_with(kind: u8, code: u8, function: u8, args: &[u8], out: Output) -> Output {
+    let Number::Value(value) = text::read_decimal(text::first_word(args)) else {
+        return out.bad_line();
+    };
+    if value > 0xFFFF_FFFF {
+        return out.bad_line();
+    }
+    let others = text::other_words(args);
+    let Number::Value(length) = text::read_decimal(text::first_word(others)) else {
+        return out.bad_line();
+    };
+    let Number::Value(n) = text::read_decimal(text::other_words(others)) else {
+        return out.bad_line();
+    };
+    if n > MOST {
+        return out.bad_line();
+    }
+    let mut room = [0xEEu8; MOST];
+    let written = append_within(kind, code, function, value as u32, length, &mut room, n);
+    out.decimal(written.number as u64)
+        .text(b", length ")
+        .decimal(written.length as u64)
+        .text(b", ")
+        .bytes(text::prefix(&room, n))
+}
+
+// Appends as if `room` ended after `n` bytes.
+fn append_within(
+    kind: u8,
+    code: u8,
+    function: u8,
+    value: u32,
+    filled: usize,
+    room: &mut [u8],
+    n: usize,
+) -> Written
+    requires { ⌜ n ≤ length (now room) ⌝ }
+{
+    client::append_field(kind, code, function, value, filled, &mut room[0..n])
+}
+
+fn row(args: &[u8], out: Output) -> Output {
+    let Number::Value(k) = text::read_decimal(text::first_word(args)) else {
+        return out.bad_line();
+    };
+    reply(text::other_words(args), k, out)
+}
+
+fn reply(args: &[u8], k: usize, out: Output) -> Output {
     let mut room = [0u8; MOST];
     let Number::Value(n) = text::read_bytes(args, &mut room) else {
         return out.bad_line();
     };
-    say_reply(client::read_reply(text::prefix(&room, n)), out)
+    say_reply(client::read_reply(text::prefix(&room, n), k), out)
 }
 
 fn say_reply(r: Reply, out: Output) -> Output {

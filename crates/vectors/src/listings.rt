@@ -5,6 +5,7 @@ use crate::output::Output;
 use crate::text;
 use crate::text::MOST;
 use crate::text::Number;
+use board::Port;
 use listing::LONGEST_COUNTS;
 use listing::LONGEST_LINE;
 
@@ -56,15 +57,15 @@ fn feed_all(s: &[u8], out: Output) -> Progress {
     };
     let mut turn = 0;
     while turn < TURNS {
-        let mut room = [0u8; 16];
+        let mut room = [0u8; Port::REPLY];
         let step = p.bench
-            .feed(0, text::part(s, p.taken, s.len()), &mut room, 16);
+            .feed(0, text::part(s, p.taken, s.len()), &mut room, Port::REPLY);
         let fed = step.fed;
         p = p.after(step.bench, fed.taken, fed.skipped);
         if fed.number != 0 {
             return p;
         }
-        p = p.with_line(&room, fed.saved);
+        p = p.with_lines(&room, fed.saved);
         turn += 1;
     }
     p
@@ -81,12 +82,11 @@ impl Progress {
         }
     }
 
-    // The type, the echo and the error stand in the reply's bytes 2, 6 and 7.
-    fn with_line(self, reply: &[u8; 16], saved: bool) -> Self {
-        let mut line = [0u8; LONGEST_LINE];
-        listing::write_line(reply[2], reply[6], reply[7], saved, &mut line);
+    // A line for each row of the reply, whose type is byte 2 and whose payload has as many bytes as byte 3 says.
+    fn with_lines(self, reply: &[u8; 166], saved: bool) -> Self {
+        let rows = text::part(reply, 4, payload_end(reply[3]));
         let bench = self.bench;
-        let out = say_line(&line, self.out);
+        let out = say_rows(reply[2], rows, saved, self.out);
         Progress {
             bench,
             taken: self.taken,
@@ -94,6 +94,33 @@ impl Progress {
             out,
         }
     }
+}
+
+fn payload_end(l: u8) -> usize {
+    4 + l as usize
+}
+
+// A reply has at most 16 rows.
+fn say_rows(kind: u8, rows: &[u8], saved: bool, out: Output) -> Output {
+    let mut told = out;
+    let mut at = 0;
+    let mut row: usize = 0;
+    while row < 16 {
+        let rest = text::part(rows, at, rows.len());
+        if rest.len() < 4 {
+            return told;
+        }
+        told = say_row(kind, rest[2], rest[3], saved, told);
+        at = std::num::wrapping_add_usize(at, listing::row_size(rest));
+        row += 1;
+    }
+    told
+}
+
+fn say_row(kind: u8, echo: u8, error: u8, saved: bool, out: Output) -> Output {
+    let mut line = [0u8; LONGEST_LINE];
+    listing::write_line(kind, echo, error, saved, &mut line);
+    say_line(&line, out)
 }
 
 fn say_counts(p: Progress) -> Output {

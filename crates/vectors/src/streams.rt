@@ -77,8 +77,8 @@ fn say_replies(s: &[u8], out: Output) -> Output {
     let mut at = 0;
     let mut turn = 0;
     while turn < TURNS {
-        let mut room = [0xEEu8; 16];
-        let step = bench.feed(0, text::part(s, at, s.len()), &mut room, 16);
+        let mut room = [0xEEu8; Port::REPLY];
+        let step = bench.feed(0, text::part(s, at, s.len()), &mut room, Port::REPLY);
         let fed = step.fed;
         if fed.number != 0 {
             return told;
@@ -92,7 +92,7 @@ fn say_replies(s: &[u8], out: Output) -> Output {
 }
 
 // The message at the front.
-fn reply_in(room: &[u8; 16]) -> &[u8] {
+fn reply_in(room: &[u8; 166]) -> &[u8] {
     text::prefix(room, length_with(room[3]))
 }
 
@@ -206,8 +206,13 @@ fn advance(bench: Bench, port: u8, track: Track, s: &[u8]) -> Stand {
     if track.done {
         return Stand { bench, track };
     }
-    let mut room = [0xEEu8; 16];
-    let step = bench.feed(port, text::part(s, track.taken, track.end), &mut room, 16);
+    let mut room = [0xEEu8; Port::REPLY];
+    let step = bench.feed(
+        port,
+        text::part(s, track.taken, track.end),
+        &mut room,
+        Port::REPLY,
+    );
     let fed = step.fed;
     let after = step.bench;
     Stand {
@@ -230,7 +235,7 @@ impl Track {
         }
     }
 
-    fn after(self, fed: Fed, room: &[u8; 16], length: usize) -> Self {
+    fn after(self, fed: Fed, room: &[u8; 166], length: usize) -> Self {
         let mut next = self;
         next.taken = std::num::wrapping_add_usize(self.taken, fed.taken);
         next.skipped = std::num::wrapping_add_usize(self.skipped, fed.skipped);

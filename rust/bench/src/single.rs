@@ -19,6 +19,11 @@ fn full_page() -> [u8; 64] {
     page
 }
 
+/// The settings that the full page keeps, so that the board stays as it is.
+fn three_settings() -> Vec<u8> {
+    plain::message(0x02, &[0x01, 5, 1, 0, 0, 0x25, 0x80, 0x07, 2, 1, 1, 0x08, 2, 1, 1])
+}
+
 /// The cases, the cheapest first.
 pub fn cases() -> Vec<Case> {
     let ping = plain::message(0x01, &[0x02, 0]);
@@ -33,6 +38,13 @@ pub fn cases() -> Vec<Case> {
         Case { first: Some(0xA5), ..case("Ping that straddles two feeds, both", 0, &ping[1..], blank) },
         case("report of a range, page of three entries", 0, &plain::message(0x02, &[0x07, 1, 2]), full_page()),
         case("save of a range, page of three entries", 0, &plain::message(0x02, &[0x07, 1, 3]), full_page()),
+        case("3 settings at once, page of three entries", 0, &three_settings(), full_page()),
+        case(
+            "16 reports at once, page of three entries",
+            0,
+            &plain::message(0x02, &[0x01, 1, 2].repeat(16)),
+            full_page(),
+        ),
         case("34 bytes, blank page", 0, &plain::message(0xA2, &[0x11; 28]), blank),
         case("261 bytes, blank page", 0, &plain::message(0xA2, &[0x11; 255]), blank),
     ]

@@ -6,6 +6,7 @@
 #![forbid(unsafe_code)]
 
 use bench::files::File;
+use plain::generate::{fields, Rng};
 use std::io::Write;
 use std::path::Path;
 use std::process::{Command, Stdio};
@@ -54,4 +55,17 @@ fn files() {
     for file in File::ALL {
         assert_same(file.name(), &file.bytes(200 << 10));
     }
+}
+
+/// Messages of several fields: a line for each row of the reply, up to sixteen of them for one message.
+#[test]
+fn several_fields() {
+    let mut rng = Rng::new(2);
+    for _ in 0..8 {
+        let stream: Vec<u8> = (0..1000).flat_map(|_| fields::piece_with_fields(&mut rng)).collect();
+        assert_same("messages of several fields", &stream);
+    }
+    let sixteen = plain::message(0x01, &[0x02, 0x00].repeat(16)).repeat(2000);
+    assert_eq!(plain::listing(&sixteen).lines().count(), 2 + 16 * 2000);
+    assert_same("sixteen Pings in each message", &sixteen);
 }

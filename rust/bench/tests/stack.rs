@@ -110,9 +110,12 @@ fn holding(bytes: &[u8]) -> Board {
 fn stack_of_a_feed() {
     let longest = plain::message(0x02, &[0x11; 255]);
     let save = plain::message(0x02, &[0x01, 1, 3]);
-    let cases: [(&str, Board, &[u8]); 6] = [
+    let reports = plain::message(0x02, &[0x01, 1, 2].repeat(16));
+    let cases: [(&str, Board, &[u8]); 8] = [
         ("nothing fed", fresh(), &[]),
         ("a save", fresh(), &save),
+        ("16 reports at once", fresh(), &reports),
+        ("16 reports, the last 27", holding(&reports[..27]), &reports[27..]),
         ("261 bytes in one chunk", fresh(), &longest),
         ("261 bytes, the first 130", fresh(), &longest[..130]),
         ("261 bytes, the last 131", holding(&longest[..130]), &longest[130..]),

@@ -14,6 +14,15 @@ pub struct Fed {
     pub board: Board,
 }
 
+/// What the writer of one field is given beside the payload.
+#[derive(Clone, Copy, Debug)]
+pub struct FieldGiven {
+    pub kind: u8,
+    pub code: u8,
+    pub function: u8,
+    pub value: u32,
+}
+
 /// Feeds a copy of a board.
 pub fn feed(port: u8, mut board: Board, chunk: &[u8], room: &mut [u8], page: &mut [u8]) -> Fed {
     let Stepped { number, taken, skipped, saved, .. } = ffi::feed_in_place(port, &mut board, chunk, room, page);
@@ -42,8 +51,13 @@ pub trait Calls: Wrapper {
         ffi::write_command(code, function, value, room)
     }
 
-    fn read_reply(&self, message: &[u8]) -> FlatReply {
-        ffi::read_reply(message)
+    fn append_field(&self, given: &FieldGiven, length: usize, room: &mut [u8]) -> Written {
+        let FieldGiven { kind, code, function, value } = *given;
+        ffi::append_field(kind, code, function, value, length, room)
+    }
+
+    fn read_reply(&self, message: &[u8], row: usize) -> FlatReply {
+        ffi::read_reply(message, row)
     }
 
     fn read_field(&self, message: &[u8], k: usize) -> FlatField {

@@ -1,7 +1,9 @@
 //! Planted faults: the library, its wrapper, or what the reckoning is compared with, with one answer changed in one case.
 //! Each must be found, or the comparison cannot fail.
 
-use crate::calls::{self, Calls, Fed};
+use crate::calls::{self, Calls, Fed, FieldGiven};
+use crate::folds::{refold, Before};
+use crate::lenient;
 use crate::wrapper::Wrapper;
 use ketphiroj::ffi::{self, FlatField, FlatPage, FlatReply, FlatValues, Started, Written};
 use ketphiroj::{Board, Field, Outcome, Port, Refusal, Reply, Values, PAGE};
@@ -37,6 +39,55 @@ pub enum Fault {
     SentValueSaved,
     JunkKept,
     UnsoundBeforePort,
+    // Found in commands of several fields: how they are handled one after the other.
+    FieldsOnGivenSettings,
+    LoadsFromGivenPage,
+    PageOfLastField,
+    StopsAtFirstError,
+    ErrorUndoesAll,
+    UnknownCodeAlone,
+    FirstFieldAlone,
+    RowsReversed,
+    MarkOfLastField,
+    MarkOfFirstField,
+    ReportsAtTheEnd,
+    EchoOfFirstField,
+    StraddlingField,
+    // And which of them are reached.
+    SeventeenFields,
+    SixteenRefused,
+    FirstSixteen,
+    UnfilledAsFarAsItGoes,
+    LastByteLeftOver,
+    CodeBeforeFilling,
+    EchoOfLastCode,
+    EmptyNotFilled,
+    RowsOfDamaged,
+    RoomOf165,
+    // Found in the rows of replies.
+    NoRowAsLast,
+    NoRowAs23,
+    RowsFromOne,
+    RowsCountedAsFields,
+    RowOf32Bits,
+    RowsBehindUntested,
+    SeventeenRows,
+    NoRows,
+    RowsInAnyType,
+    ValueInType01,
+    ValueAfterError,
+    ValueOfAnotherCode,
+    TwoValues,
+    RowOfSize3,
+    // Found in the writer of one field.
+    RoomBeforeCommand,
+    FieldAtTheFront,
+    LengthOfTheField,
+    LengthWraps,
+    BytePastTheField,
+    PingInType02,
+    UnusedValueTested,
+    FieldRangeModulo256,
     // Found in the calls of their own.
     StartOnThreeEntries,
     WholeWithoutSums,
@@ -62,6 +113,8 @@ pub enum Fault {
     WrappedStart,
     WrappedMessageCheck,
     WrappedReply,
+    WrappedRows,
+    WrappedAppendedField,
     WrappedField,
     WrappedFieldData,
     WrappedMessage,
@@ -102,17 +155,23 @@ impl Calls for Planted {
     }
 
     fn feed(&self, port: u8, board: Board, chunk: &[u8], room: &mut [u8], page: &mut [u8]) -> Fed {
-        let page_before = page.to_vec();
+        let before = Before { port, board, chunk, room: room.to_vec(), page: page.to_vec() };
         if let Some(fed) = feed_run(self.0, port, board, chunk, room, page) {
             return fed;
         }
+        if self.is(Fault::RoomOf165) && room.len() == Board::REPLY - 1 {
+            return feed_in_short_room(&before, room, page);
+        }
         let chunk = if self.is(Fault::LengthOf16Bits) { &chunk[..chunk.len() % 65536] } else { chunk };
         let mut fed = calls::feed(port, board, chunk, room, page);
+        if fed.number == 0 {
+            refold(self.0, &before, &mut fed, room, page);
+        }
         match self.0 {
             Fault::ReplyOfError4 if fed.number == 0 && room[7] == 4 => room[9] ^= 1,
-            Fault::RoomPastTheReply if fed.number == 0 && room.len() > 16 => room[16] = 0,
+            Fault::RoomPastTheReply if fed.number == 0 && room.len() > Board::REPLY => room[Board::REPLY] = 0,
             Fault::SkippedOfHeldMessage if fed.number == 0 && fed.taken == 0 && fed.skipped > 0 => fed.skipped -= 1,
-            Fault::MarkOfTheSameSave if fed.saved && page == page_before => fed.saved = false,
+            Fault::MarkOfTheSameSave if fed.saved && page == before.page => fed.saved = false,
             Fault::OtherPort if fed.number == 0 && port == 1 && fed.board.first.held > 2 => {
                 fed.board.first.bytes[fed.board.first.held] = 1
             }
@@ -123,7 +182,7 @@ impl Calls for Planted {
             Fault::StrayNotCounted if fed.skipped > 0 && chunk.starts_with(&[0xA5; 3]) => fed.skipped -= 1,
             Fault::SkippedOf8Bits => fed.skipped %= 256,
             Fault::TwoA5Decided if fed.number == 1 && port == 0 => skip_first_of_two(&mut fed),
-            Fault::SizeBeforeCode if fed.number == 0 && room[7] == 3 => error_4_for_wrong_size(chunk, room),
+            Fault::SizeBeforeCode if fed.number == 0 && room[7] == 3 => error_4_for_size_6(chunk, room),
             Fault::SentValueSaved if fed.saved && chunk.len() == 10 => save_sent_range(chunk, page),
             Fault::JunkKept if fed.number == 1 && chunk.is_empty() => keep_junk(&mut fed, &board),
             Fault::UnsoundBeforePort if fed.number == 16 && board.first.held > 260 => fed.number = 17,
@@ -140,8 +199,15 @@ impl Calls for Planted {
         }
     }
 
-    fn read_reply(&self, message: &[u8]) -> FlatReply {
-        let read = ffi::read_reply(message);
+    fn append_field(&self, given: &FieldGiven, length: usize, room: &mut [u8]) -> Written {
+        lenient::append(self.0, given, length, room)
+    }
+
+    fn read_reply(&self, message: &[u8], row: usize) -> FlatReply {
+        if let Some(read) = lenient::read(self.0, message, row) {
+            return read;
+        }
+        let read = ffi::read_reply(message, row);
         let more = read.number == 23 && message.len() == 10 && message[4..6] == [0x80, 2] && message[7] == 5;
         if self.is(Fault::ReplyOfError5) && more {
             return FlatReply { number: 0, kind: message[2], echo: message[6], error: 5, ..read };
@@ -286,8 +352,20 @@ impl Wrapper for Planted {
         self.next_refusal(Fault::WrappedCommand, ketphiroj::write_command(code, function, value, room))
     }
 
-    fn wrapped_read_reply(&self, message: &[u8]) -> Result<Reply, Refusal> {
-        self.next_refusal(Fault::WrappedReply, ketphiroj::read_reply(message))
+    fn wrapped_append_field(&self, given: &FieldGiven, length: usize, room: &mut [u8]) -> Result<usize, Refusal> {
+        let FieldGiven { kind, code, function, value } = *given;
+        let appended = ketphiroj::append_field(kind, code, function, value, length, room);
+        self.next_refusal(Fault::WrappedAppendedField, appended)
+    }
+
+    fn wrapped_read_reply(&self, message: &[u8], row: usize) -> Result<Reply, Refusal> {
+        self.next_refusal(Fault::WrappedReply, ketphiroj::read_reply(message, row))
+    }
+
+    fn wrapped_read_rows(&self, message: &[u8]) -> Result<Vec<Reply>, Refusal> {
+        // The sixteenth row is left out.
+        let most = if self.is(Fault::WrappedRows) { 15 } else { usize::MAX };
+        Ok(ketphiroj::read_rows(message)?.take(most).collect())
     }
 
     fn wrapped_read_field(&self, message: &[u8], k: usize) -> Result<Field, Refusal> {
@@ -335,6 +413,14 @@ impl Wrapper for Planted {
     }
 }
 
+/// One byte of room too few is enough, where the reply fits.
+fn feed_in_short_room(before: &Before, room: &mut [u8], page: &mut [u8]) -> Fed {
+    let mut longer = [&before.room[..], &[0]].concat();
+    let fed = calls::feed(before.port, before.board, before.chunk, &mut longer, page);
+    room.copy_from_slice(&longer[..room.len()]);
+    fed
+}
+
 /// Whether a blank or sound page has an entry under a code; false for any other page.
 fn has_entry(page: &[u8], code: u8) -> bool {
     let body = plain::body(page, &[0xFF; 64], code).1;
@@ -371,10 +457,9 @@ fn feed_run(fault: Fault, port: u8, board: Board, chunk: &[u8], room: &mut [u8],
 fn report_type_a5(port: u8, mut board: Board, chunk: &[u8], room: &mut [u8]) -> Option<Fed> {
     let length = usize::from(*chunk.get(3)?) + 6;
     let message = chunk.get(..length)?;
-    let error = plain::error_of(message);
-    let reply = plain::reply_of(message, error, None);
+    let damaged = !plain::sums_right(message);
+    let reply = plain::handle(message, plain::FACTORY, plain::Values::default()).reply;
     room[..reply.len()].copy_from_slice(&reply);
-    let damaged = error == 1;
     if damaged {
         let fed = if port == 0 { &mut board.first } else { &mut board.second };
         fed.held = length - 1;
@@ -393,9 +478,9 @@ fn skip_first_of_two(fed: &mut Fed) {
     }
 }
 
-/// The size byte is compared before the code: 4 where 3 comes first.
-fn error_4_for_wrong_size(chunk: &[u8], room: &mut [u8]) {
-    if chunk.len() > 7 && usize::from(chunk[5]) + 2 != usize::from(chunk[3]) {
+/// A field's size is compared before its code: 4 where 3 comes first. No setting has 6 bytes of data.
+fn error_4_for_size_6(chunk: &[u8], room: &mut [u8]) {
+    if chunk.len() > 7 && chunk[3] == 8 && chunk[5] == 6 {
         let (kind, echo) = (room[2], room[6]);
         ffi::write_message(kind, &[0x80, 2, echo, 4], room);
     }

@@ -3,6 +3,7 @@
 use crate::calls::Calls;
 use crate::feeding::{self, Feed, Pair};
 use crate::group::{same, Outcome, Ran};
+use ketphiroj::Board;
 use plain::generate::{self, Call, Rng, Step};
 use plain::{Reckoned, Reckoning};
 
@@ -195,8 +196,8 @@ fn cut_for_one_port(rng: &mut Rng, stream: &[u8]) -> Vec<Step> {
     let mut answered = 0;
     while !(rest.is_empty() && answered == 1) {
         let length = generate::chunk_length(rng).min(rest.len());
-        let fed = plain::feed(port, &board, &rest[..length], &mut [0; 16], &mut page);
-        list.push(Step::Feed(Call { port, chunk: rest[..length].to_vec(), room: 16 }));
+        let fed = plain::feed(port, &board, &rest[..length], &mut [0; Board::REPLY], &mut page);
+        list.push(Step::Feed(Call { port, chunk: rest[..length].to_vec(), room: Board::REPLY }));
         rest = &rest[fed.taken..];
         board = fed.board;
         answered = fed.number;
@@ -212,7 +213,7 @@ pub fn long(calls: &impl Calls, rng: &mut Rng, ran: &mut Ran) -> Outcome {
     let mut pair = started(calls, &page)?;
     let mut at = 0;
     loop {
-        let given = Feed { port: 0, chunk: &stream[at..], room: 16 };
+        let given = Feed { port: 0, chunk: &stream[at..], room: Board::REPLY };
         let before = pair.board.first;
         let (fed, _) = feeding::feed(calls, &mut pair, &given).map_err(|text| {
             let near = &stream[at..stream.len().min(at + 300)];

@@ -8,11 +8,15 @@
 mod calls;
 mod faults;
 mod feeding;
+mod fields;
+mod folds;
 mod group;
+mod lenient;
 mod lists;
 mod messages;
 mod pages;
 mod records;
+mod rows;
 mod runs;
 mod singles;
 mod wrapper;
@@ -46,9 +50,15 @@ enum Group {
     WrittenPages,
     Bodies,
     FactoryPages,
+    FieldMessages,
+    CutFields,
+    FieldLists,
+    SeparateMessages,
+    ReplyRows,
+    AppendedFields,
 }
 
-const GROUPS: [Group; 18] = [
+const GROUPS: [Group; 24] = [
     Group::Lists,
     Group::HardLists,
     Group::ReckonedLists,
@@ -67,6 +77,12 @@ const GROUPS: [Group; 18] = [
     Group::WrittenPages,
     Group::Bodies,
     Group::FactoryPages,
+    Group::FieldMessages,
+    Group::CutFields,
+    Group::FieldLists,
+    Group::SeparateMessages,
+    Group::ReplyRows,
+    Group::AppendedFields,
 ];
 
 impl Group {
@@ -83,6 +99,9 @@ impl Group {
             Group::Readers => 2_000_000,
             Group::WrittenData => 1_000_000,
             Group::Bodies => 1_000_000,
+            Group::CutFields => 2_000,
+            Group::FieldLists => 40_000,
+            Group::SeparateMessages => 100_000,
             _ => 1,
         }
     }
@@ -91,16 +110,18 @@ impl Group {
     fn numbers(self) -> &'static [u8] {
         match self {
             Group::Lists | Group::ReckonedLists | Group::WrappedLists | Group::RunsOfA5 => &[0, 1, 16, 18],
-            Group::HardLists | Group::LongStreams => &[0, 1],
+            Group::FieldLists => &[0, 1, 16, 18],
+            Group::HardLists | Group::LongStreams | Group::CutFields => &[0, 1],
             Group::Boards => &[0, 1, 16, 17, 18, 19, 20],
-            Group::Commands => &[0],
+            Group::Commands | Group::SeparateMessages => &[0],
             Group::Starts | Group::Pages | Group::WrittenPages => &[0, 19, 20],
             Group::Readers => &[0, 18, 21, 22, 23, 24, 25, 27],
-            Group::Replies => &[0, 23],
+            Group::Replies => &[0, 23, 27],
+            Group::ReplyRows => &[0, 21, 22, 23, 27],
             Group::WrittenMessages => &[0, 18, 26],
-            Group::WrittenCommands => &[0, 18, 28],
+            Group::WrittenCommands | Group::AppendedFields => &[0, 18, 28],
             Group::Bodies => &[0, 18, 19, 20],
-            Group::WrittenData | Group::FactoryPages => &[0, 18],
+            Group::WrittenData | Group::FactoryPages | Group::FieldMessages => &[0, 18],
         }
     }
 
@@ -125,6 +146,12 @@ impl Group {
             Group::WrittenPages => pages::write_all(calls, rng, ran),
             Group::Bodies => pages::copy_body(calls, rng, ran),
             Group::FactoryPages => pages::factory_page(calls, ran),
+            Group::FieldMessages => fields::all(calls, rng, ran),
+            Group::CutFields => fields::cut(calls, rng, ran),
+            Group::FieldLists => fields::lists(calls, rng, ran),
+            Group::SeparateMessages => fields::separate(calls, rng, ran),
+            Group::ReplyRows => rows::replies(calls, rng, ran),
+            Group::AppendedFields => rows::append(calls, rng, ran),
         }
     }
 
@@ -139,7 +166,7 @@ impl Group {
 }
 
 /// Each planted fault, and the group that is to find it.
-const FAULTS: [(Fault, Group); 56] = [
+const FAULTS: [(Fault, Group); 103] = [
     (Fault::ReplyOfError4, Group::Lists),
     (Fault::RoomPastTheReply, Group::Lists),
     (Fault::SkippedOfHeldMessage, Group::Lists),
@@ -196,6 +223,53 @@ const FAULTS: [(Fault, Group); 56] = [
     (Fault::WrappedBody, Group::Bodies),
     (Fault::FactoryPageInLongRoom, Group::FactoryPages),
     (Fault::WrappedFactoryPage, Group::FactoryPages),
+    (Fault::UnknownCodeAlone, Group::FieldMessages),
+    (Fault::SeventeenFields, Group::FieldMessages),
+    (Fault::SixteenRefused, Group::FieldMessages),
+    (Fault::FirstSixteen, Group::FieldMessages),
+    (Fault::UnfilledAsFarAsItGoes, Group::FieldMessages),
+    (Fault::LastByteLeftOver, Group::FieldMessages),
+    (Fault::CodeBeforeFilling, Group::FieldMessages),
+    (Fault::EchoOfLastCode, Group::FieldMessages),
+    (Fault::EmptyNotFilled, Group::Commands),
+    (Fault::RoomOf165, Group::FieldMessages),
+    (Fault::StraddlingField, Group::CutFields),
+    (Fault::RowsOfDamaged, Group::FieldLists),
+    (Fault::FieldsOnGivenSettings, Group::FieldLists),
+    (Fault::LoadsFromGivenPage, Group::FieldLists),
+    (Fault::PageOfLastField, Group::FieldLists),
+    (Fault::StopsAtFirstError, Group::FieldLists),
+    (Fault::ErrorUndoesAll, Group::FieldLists),
+    (Fault::FirstFieldAlone, Group::FieldLists),
+    (Fault::MarkOfLastField, Group::FieldLists),
+    (Fault::MarkOfFirstField, Group::FieldLists),
+    (Fault::RowsReversed, Group::SeparateMessages),
+    (Fault::ReportsAtTheEnd, Group::SeparateMessages),
+    (Fault::EchoOfFirstField, Group::SeparateMessages),
+    (Fault::NoRowAsLast, Group::Replies),
+    (Fault::NoRowAs23, Group::ReplyRows),
+    (Fault::RowsFromOne, Group::ReplyRows),
+    (Fault::RowsCountedAsFields, Group::ReplyRows),
+    (Fault::RowOf32Bits, Group::ReplyRows),
+    (Fault::RowsBehindUntested, Group::ReplyRows),
+    (Fault::SeventeenRows, Group::ReplyRows),
+    (Fault::NoRows, Group::ReplyRows),
+    (Fault::RowsInAnyType, Group::ReplyRows),
+    (Fault::ValueInType01, Group::ReplyRows),
+    (Fault::ValueAfterError, Group::ReplyRows),
+    (Fault::ValueOfAnotherCode, Group::ReplyRows),
+    (Fault::TwoValues, Group::ReplyRows),
+    (Fault::RowOfSize3, Group::ReplyRows),
+    (Fault::WrappedRows, Group::ReplyRows),
+    (Fault::RoomBeforeCommand, Group::AppendedFields),
+    (Fault::FieldAtTheFront, Group::AppendedFields),
+    (Fault::LengthOfTheField, Group::AppendedFields),
+    (Fault::LengthWraps, Group::AppendedFields),
+    (Fault::BytePastTheField, Group::AppendedFields),
+    (Fault::PingInType02, Group::AppendedFields),
+    (Fault::UnusedValueTested, Group::AppendedFields),
+    (Fault::FieldRangeModulo256, Group::AppendedFields),
+    (Fault::WrappedAppendedField, Group::AppendedFields),
 ];
 
 /// The checks that passed and failed.

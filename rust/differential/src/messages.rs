@@ -6,12 +6,12 @@ use crate::lists::hex;
 use crate::records;
 use ketphiroj::ffi::Written;
 use ketphiroj::{Axes, Field, Refusal, Reply};
-use plain::generate::{self, Rng};
+use plain::generate::{self, fields, Rng};
 
 const FILLING: u8 = 0x77;
 
 /// A message's writing compared: the answer, and the room with what it was filled with.
-fn writing(
+pub fn writing(
     what: &str,
     length: usize,
     library: impl FnOnce(&mut [u8]) -> Written,
@@ -28,7 +28,7 @@ fn writing(
 }
 
 /// The wrapper's writing is the library's.
-fn wrapped(
+pub fn wrapped(
     what: &str,
     (written, room): &(Written, Vec<u8>),
     wrapper: impl FnOnce(&mut [u8]) -> Result<usize, Refusal>,
@@ -49,7 +49,8 @@ fn any_message(rng: &mut Rng) -> Vec<u8> {
         3 => generate::nested(rng),
         4 => long_data(rng),
         5 | 6 => generate::data(rng),
-        7..=9 => generate::reply(rng),
+        7 => fields::reply_of_rows(rng),
+        8 | 9 => generate::reply(rng),
         _ => generate::any_message(rng),
     };
     match rng.below(16) {
@@ -92,7 +93,8 @@ pub fn read_any(calls: &impl Calls, rng: &mut Rng, ran: &mut Ran) -> Outcome {
 
 fn read(calls: &impl Calls, message: &[u8], k: usize, room: usize, ran: &mut Ran) -> Outcome {
     check(calls, message, ran)?;
-    reply(calls, message, ran)?;
+    reply(calls, message, 0, ran)?;
+    reply(calls, message, k, ran)?;
     field(calls, message, k, ran)?;
     field_copy(calls, message, k, room, ran)
 }
@@ -105,13 +107,14 @@ fn check(calls: &impl Calls, message: &[u8], ran: &mut Ran) -> Outcome {
     same("wrapped check", &calls.wrapped_check_message(message).map_err(Refusal::number), &expected)
 }
 
-fn reply(calls: &impl Calls, message: &[u8], ran: &mut Ran) -> Outcome {
-    let read = plain::read_reply(message);
+/// One row of a reply.
+pub fn reply(calls: &impl Calls, message: &[u8], row: usize, ran: &mut Ran) -> Outcome {
+    let read = plain::read_reply(message, row);
     ran.count(read.number);
-    same("read_reply", &calls.read_reply(message), &records::reply(read))?;
+    same("read_reply", &calls.read_reply(message, row), &records::reply(read))?;
     let plain::Reply { number, kind, echo, error, value } = read;
     let expected = if number == 0 { Ok(Reply { kind, echo, error, value }) } else { Err(number) };
-    same("wrapped reply", &calls.wrapped_read_reply(message).map_err(Refusal::number), &expected)
+    same("wrapped reply", &calls.wrapped_read_reply(message, row).map_err(Refusal::number), &expected)
 }
 
 fn field(calls: &impl Calls, message: &[u8], k: usize, ran: &mut Ran) -> Outcome {
@@ -142,15 +145,16 @@ fn field_copy(calls: &impl Calls, message: &[u8], k: usize, room: usize, ran: &m
     same("place of field_data", &wrapped.map(<[u8]>::as_ptr), &expected.map(<[u8]>::as_ptr))
 }
 
-/// Every reply of one field, and every value in a second one.
+/// Every reply of one row, and every value in its second field; its row, and one that it does not have.
 pub fn all_replies(calls: &impl Calls, ran: &mut Ran) -> Outcome {
     for kind in [0x00, 0x01, 0x02, 0x03, 0xA2, 0xFF] {
         for echo in 0..=255 {
             for error in 0..=255 {
-                reply(calls, &plain::message(kind, &[0x80, 2, echo, error]), ran)?;
+                reply(calls, &plain::message(kind, &[0x80, 2, echo, error]), 0, ran)?;
+                reply(calls, &plain::message(kind, &[0x80, 2, echo, error]), 1, ran)?;
             }
             for value in 0..=255 {
-                reply(calls, &plain::message(kind, &[0x80, 2, echo, 0, echo, 1, value]), ran)?;
+                reply(calls, &plain::message(kind, &[0x80, 2, echo, 0, echo, 1, value]), 0, ran)?;
             }
         }
     }

@@ -3,6 +3,7 @@
 use crate::calls::Calls;
 use crate::group::{Outcome, Ran};
 use crate::lists::{run_or_shrink, Beside};
+use ketphiroj::Board;
 use plain::generate::{self, Behind, Call, Rng, Step};
 
 const LONGEST: usize = 320;
@@ -36,21 +37,28 @@ fn both_ports(
     let page = generate::sound_page(rng);
     let streams = [stream(rng), stream(rng)];
     if length <= SHORT {
-        cut_at_every_place(calls, &page, &streams, ran)?;
+        // The lists are short, and so compared with the reckoning too.
+        cut_at_every_place(calls, &page, &streams, Beside::Reckoning, ran)?;
     }
     let list: Vec<Step> = generate::offered(rng, &page, streams).into_iter().map(Step::Feed).collect();
     run_or_shrink(calls, &page, &list, Beside::Nothing, ran)
 }
 
 /// The ports alternate: a first part to each, then the rest. The one stream is cut from its front on, the other from
-/// its end. The lists are short, and so compared with the reckoning too.
-fn cut_at_every_place(calls: &impl Calls, page: &[u8], streams: &[Vec<u8>; 2], ran: &mut Ran) -> Outcome {
+/// its end.
+pub fn cut_at_every_place(
+    calls: &impl Calls,
+    page: &[u8],
+    streams: &[Vec<u8>; 2],
+    beside: Beside,
+    ran: &mut Ran,
+) -> Outcome {
     let [first, second] = streams;
     for cut in 0..=first.len().max(second.len()) {
         let (begun, ended) = first.split_at(cut.min(first.len()));
         let (other_begun, other_ended) = second.split_at(second.len().saturating_sub(cut));
         let list = used_up(&[(0, begun), (1, other_begun), (0, ended), (1, other_ended)]);
-        run_or_shrink(calls, page, &list, Beside::Reckoning, ran)?;
+        run_or_shrink(calls, page, &list, beside, ran)?;
     }
     Ok(())
 }
@@ -64,8 +72,8 @@ fn used_up(chunks: &[(u8, &[u8])]) -> Vec<Step> {
         let mut rest = chunk;
         let mut answered = 0;
         while answered == 0 {
-            let fed = plain::feed(port, &board, rest, &mut [0; 16], &mut page);
-            list.push(Step::Feed(Call { port, chunk: rest.to_vec(), room: 16 }));
+            let fed = plain::feed(port, &board, rest, &mut [0; Board::REPLY], &mut page);
+            list.push(Step::Feed(Call { port, chunk: rest.to_vec(), room: Board::REPLY }));
             rest = &rest[fed.taken..];
             board = fed.board;
             answered = fed.number;

@@ -5,20 +5,25 @@ use crate::feeding::{self, Feed, Pair};
 use crate::group::{Outcome, Ran};
 use crate::lists::hex;
 use crate::records;
-use plain::generate::{self, Rng};
+use ketphiroj::Board;
+use plain::generate::{self, fields, Rng};
 
 /// One feed of a board of any contents, sound or not, with junk past the held bytes.
 pub fn any(calls: &impl Calls, rng: &mut Rng, ran: &mut Ran) -> Outcome {
     let plain = generate::board(rng);
     let pieces = rng.below(4);
-    let mut chunk = generate::stream(rng, pieces);
+    let mut chunk = match rng.below(4) {
+        0 => fields::piece_with_fields(rng),
+        _ => generate::stream(rng, pieces),
+    };
     chunk.truncate(generate::chunk_length(rng));
     let pair = Pair { board: records::board(&plain), plain, page: generate::page(rng) };
     let given = Feed { port: generate::port(rng), chunk: &chunk, room: generate::room(rng) };
     one(calls, &pair, &given, ran)
 }
 
-fn one(calls: &impl Calls, before: &Pair, given: &Feed, ran: &mut Ran) -> Outcome {
+/// One feed, of the library and of its wrapper.
+pub fn one(calls: &impl Calls, before: &Pair, given: &Feed, ran: &mut Ran) -> Outcome {
     let mut after = before.clone();
     let fed = feeding::feed(calls, &mut after, given);
     let compared = fed.and_then(|(fed, room)| {
@@ -84,12 +89,12 @@ pub fn all_values() -> Vec<plain::Values> {
 }
 
 /// One message, fed whole to a board that holds nothing.
-fn command(calls: &impl Calls, rng: &mut Rng, kind: u8, payload: &[u8], ran: &mut Ran) -> Outcome {
+pub fn command(calls: &impl Calls, rng: &mut Rng, kind: u8, payload: &[u8], ran: &mut Ran) -> Outcome {
     let page = generate::sound_page(rng).to_vec();
     let ports = [plain::Port::fresh(), plain::Port::fresh()];
     let plain = plain::Board { ports, settings: generate::allowed_settings(rng) };
     let pair = Pair { board: records::board(&plain), plain, page };
-    let given = Feed { port: rng.below(2) as u8, chunk: &plain::message(kind, payload), room: 16 };
+    let given = Feed { port: rng.below(2) as u8, chunk: &plain::message(kind, payload), room: Board::REPLY };
     one(calls, &pair, &given, ran)
 }
 

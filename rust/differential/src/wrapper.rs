@@ -1,5 +1,6 @@
 //! The wrapper's calls under test.
 
+use crate::calls::FieldGiven;
 use ketphiroj::{Board, Field, Outcome, Refusal, Reply, Values, PAGE};
 
 /// The wrapper's calls. An implementation changes some of them to plant a fault: the library's own calls are compared
@@ -32,8 +33,17 @@ pub trait Wrapper {
         ketphiroj::write_command(code, function, value, room)
     }
 
-    fn wrapped_read_reply(&self, message: &[u8]) -> Result<Reply, Refusal> {
-        ketphiroj::read_reply(message)
+    fn wrapped_append_field(&self, given: &FieldGiven, length: usize, room: &mut [u8]) -> Result<usize, Refusal> {
+        let FieldGiven { kind, code, function, value } = *given;
+        ketphiroj::append_field(kind, code, function, value, length, room)
+    }
+
+    fn wrapped_read_reply(&self, message: &[u8], row: usize) -> Result<Reply, Refusal> {
+        ketphiroj::read_reply(message, row)
+    }
+
+    fn wrapped_read_rows(&self, message: &[u8]) -> Result<Vec<Reply>, Refusal> {
+        Ok(ketphiroj::read_rows(message)?.collect())
     }
 
     fn wrapped_read_field(&self, message: &[u8], k: usize) -> Result<Field, Refusal> {

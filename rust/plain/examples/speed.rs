@@ -21,7 +21,7 @@ fn main() {
         for (page, list) in &lists {
             let mut page = *page;
             let (_, mut board) = start(&page);
-            let mut room = [0; 64];
+            let mut room = [0; 230];
             for call in list {
                 let fed = feed(call.port, &board, &call.chunk, &mut room[..call.room], &mut page);
                 board = fed.board;

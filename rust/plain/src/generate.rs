@@ -1,7 +1,9 @@
 //! Test material from a seed: messages, damaged ones, streams, chunks, pages, boards and lists of feeds; and the
-//! shrinking of a failing list.
+//! shrinking of a failing list. [`fields`] has the commands of several fields, and the replies to them.
 //!
 //! The same seed gives the same material on every machine.
+
+pub mod fields;
 
 use crate::message::payload_of;
 use crate::{feed, message, start, sums, write_page, Board, Port, Settings, Values};
@@ -539,15 +541,15 @@ pub fn port(rng: &mut Rng) -> u8 {
     }
 }
 
-/// Mostly 16, sometimes 0, 15, 17, 40 or any up to 64.
+/// Mostly 166, sometimes 0, 16, 165, 167 or any up to 230.
 pub fn room(rng: &mut Rng) -> usize {
     match rng.below(32) {
         0 => 0,
-        1 => 15,
-        2 => 17,
-        3 => 40,
-        4 => rng.below(65),
-        _ => 16,
+        1 => 165,
+        2 => 167,
+        3 => 16,
+        4 => rng.below(231),
+        _ => Port::LONGEST_REPLY,
     }
 }
 
@@ -659,6 +661,7 @@ pub fn sound_port(rng: &mut Rng) -> Port {
             rng.bytes(count)
         }
         3 => run(rng),
+        4 => fields::piece_with_fields(rng),
         _ => {
             let pieces = rng.between(1, 8);
             stream(rng, pieces)
@@ -801,6 +804,11 @@ pub enum Step {
 /// A list of feeds of either kind; one list in three has restarts in it.
 pub fn steps(rng: &mut Rng, page: &[u8], pieces: usize) -> Vec<Step> {
     let calls = any_calls(rng, page, pieces);
+    with_restarts(rng, calls)
+}
+
+/// The feeds as they are, or with some restarts between them.
+fn with_restarts(rng: &mut Rng, calls: Vec<Call>) -> Vec<Step> {
     let restarts = rng.chance(1, 3);
     let rarity = calls.len().max(1);
     let mut list = Vec::with_capacity(calls.len() + 4);

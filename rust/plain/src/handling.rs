@@ -1,6 +1,6 @@
-//! Handling one message (01-026 to 01-045).
+//! Handling one message (01-026 to 01-045), which may have several fields (02-02.2 to 02-02.4, 02-02.8).
 
-use crate::message::{bytes_of, kind_of, length_of, message, number_of, payload_of, sums_right};
+use crate::message::{bytes_of, fields_of, kind_of, length_of, message, number_of, payload_of, sums_right, Part};
 use crate::page::Values;
 
 /// The working values.
@@ -80,83 +80,91 @@ impl Settings {
     }
 }
 
-/// 01-026: "Errors, first that applies". The message has L + 6 bytes.
-pub fn error_of(message: &[u8]) -> u8 {
-    let kind = kind_of(message);
-    let l = length_of(message);
-    let payload = payload_of(message);
+/// 02-02.2: "A good message of type 01 or 02 may carry 1 to 16 fields."
+pub const MOST_FIELDS: usize = 16;
+
+/// The fields of a message of L + 6 bytes, or the error of one whose fields are not reached.
+///
+/// 01-026: "Errors, first that applies".
+pub fn fields_or_error(received: &[u8]) -> Result<Vec<Part<'_>>, u8> {
+    let kind = kind_of(received);
 
     // "1 | sums wrong"
-    if !sums_right(message) {
-        return 1;
+    if !sums_right(received) {
+        return Err(1);
     }
 
     // "2 | type neither 01 nor 02"
     if kind != 0x01 && kind != 0x02 {
-        return 2;
+        return Err(2);
     }
 
-    // "3 | L = 0, or the code is not one of this type's above"
-    if l == 0 {
-        return 3;
+    // "3 | L = 0"
+    if length_of(received) == 0 {
+        return Err(3);
     }
-    let code = payload[0];
+
+    // 02-02.8: "a payload that fields do not fill exactly, or more than 16 fields, gets one field with error 4, tested
+    // after L = 0 and before any code; there L = 1 and unknown codes become 4."
+    match fields_of(payload_of(received)) {
+        Some(fields) if fields.len() <= MOST_FIELDS => Ok(fields),
+        _ => Err(4),
+    }
+}
+
+/// The error of one field of a message of type 01 or 02: the rest of 01-026's table, which a separate message with this
+/// field alone would come to.
+pub fn field_error(kind: u8, field: &Part) -> u8 {
+    let code = field.code;
+
+    // "3 | [..] or the code is not one of this type's above"
     if !codes_of(kind).contains(&code) {
         return 3;
     }
 
-    // "4 | L = 1; size is not L - 2; size wrong; function not 1 to 5; value not allowed"
-    if l == 1 {
-        return 4;
-    }
-    // "A command has exactly one field."
-    let size = usize::from(payload[1]);
-    if size != l - 2 {
-        return 4;
-    }
-    let data = &payload[2..];
-
-    // "Ping has size 0."
+    // "4 | [..] size wrong; function not 1 to 5; value not allowed"; "Ping has size 0."
     if kind == 0x01 && code == PING {
-        return if size == 0 { 0 } else { 4 };
+        return if field.data.is_empty() { 0 } else { 4 };
     }
 
     // "A setting's data is a function, then the value"
-    if size == 0 {
+    let Some((function, value)) = field.data.split_first() else {
         return 4;
-    }
-    let function = data[0];
-    let value = &data[1..];
+    };
     let value_size = value_size(code).expect("a setting has a value");
-    match function {
+    let right = match function {
         // "function 1 needs both;"
-        1 => {
-            if value.len() != value_size {
-                return 4;
-            }
-            if !allowed(code, number_of(value)) {
-                return 4;
-            }
-        }
+        1 => value.len() == value_size && allowed(code, number_of(value)),
         // "functions 2 to 5 come with the function only, or with as many value bytes as function 1 has, not looked at."
-        2..=5 => {
-            if !value.is_empty() && value.len() != value_size {
-                return 4;
-            }
-        }
-        _ => return 4,
-    }
+        2..=5 => value.is_empty() || value.len() == value_size,
+        _ => false,
+    };
 
     // "0 | otherwise"
-    0
+    if right {
+        0
+    } else {
+        4
+    }
+}
+
+/// One row of a reply. 01-042: "one field 80 with size 2: echo and error". 01-044: "An accepted function 2 adds a
+/// second field: code, value size, working value." Its code is the echo.
+#[derive(Clone, Copy, Debug, PartialEq, Eq)]
+pub struct Row {
+    pub echo: u8,
+    pub error: u8,
+    /// The working value.
+    pub value: Option<u32>,
 }
 
 /// What handling one message gives.
 #[derive(Clone, Debug, PartialEq, Eq)]
 pub struct Handled {
-    pub error: u8,
+    /// The reply's rows: one for each field, or the one of a message whose fields are not reached.
+    pub rows: Vec<Row>,
     pub reply: Vec<u8>,
-    /// Whether a save was accepted.
+    /// Whether a save was accepted, of any field.
     pub saved: bool,
     /// The working values afterwards.
     pub settings: Settings,
@@ -165,53 +173,65 @@ pub struct Handled {
 }
 
 /// Handles one message of L + 6 bytes, good or damaged, on the working values and the page's values.
-pub fn handle(message: &[u8], settings: Settings, values: Values) -> Handled {
-    let error = error_of(message);
-    let mut handled = Handled { error, reply: reply_of(message, error, None), saved: false, settings, values };
-
-    // Only an accepted setting has a function. "Ping without both" (01-048).
-    if error != 0 || kind_of(message) != 0x02 {
-        return handled;
-    }
-    let payload = payload_of(message);
-    let code = payload[0];
-    let function = payload[2];
-    match function {
-        // "Functions: 1 use the value;"
-        1 => handled.settings = settings.with(code, number_of(&payload[3..])),
-        // "2 report the working value;"
-        2 => handled.reply = reply_of(message, error, Some(settings.value(code))),
-        // "3 save the working value to the page;"
-        3 => {
-            handled.values = values.with(code, settings.value(code));
-            handled.saved = true;
+pub fn handle(received: &[u8], settings: Settings, values: Values) -> Handled {
+    let kind = kind_of(received);
+    let mut handled = Handled { rows: Vec::new(), reply: Vec::new(), saved: false, settings, values };
+    match fields_or_error(received) {
+        // 02-02.3: "It leaves the settings and page that separate messages of the same type, one for each field in
+        // order, would leave."
+        Ok(fields) => fields.iter().for_each(|field| handle_field(kind, field, &mut handled)),
+        Err(error) => {
+            // 01-043: "The echo is the first payload byte, or 0 if L = 0."
+            let echo = payload_of(received).first().copied().unwrap_or(0);
+            handled.rows.push(Row { echo, error, value: None });
         }
-        // "4 take the page's value;" "Loading [..] take the body from the page if it has the entry, else from the
-        // factory page." (01-056)
-        4 => {
-            let loaded = values.value(code).unwrap_or(FACTORY.value(code));
-            handled.settings = settings.with(code, loaded);
-        }
-        // "5 take the factory value."
-        5 => handled.settings = settings.with(code, FACTORY.value(code)),
-        _ => unreachable!("an accepted function is 1 to 5"),
     }
+    handled.reply = reply_of(kind, &handled.rows);
     handled
 }
 
-/// 01-042: "Reply: the received type, and one field 80 with size 2: echo and error."
-///
-/// 01-044: "An accepted function 2 adds a second field: code, value size, working value." That value is `reported`.
-pub fn reply_of(received: &[u8], error: u8, reported: Option<u32>) -> Vec<u8> {
-    // "The echo is the first payload byte, or 0 if L = 0."
-    let echo = payload_of(received).first().copied().unwrap_or(0);
-    let mut payload = vec![0x80, 2, echo, error];
-    if let Some(value) = reported {
-        let code = echo;
-        let size = value_size(code).expect("a reported setting has a value");
-        payload.push(code);
-        payload.push(size as u8);
-        payload.extend(bytes_of(value, size));
+/// Handles one field, on the settings and the page's values that those before it left.
+fn handle_field(kind: u8, field: &Part, handled: &mut Handled) {
+    let code = field.code;
+    let mut row = Row { echo: code, error: field_error(kind, field), value: None };
+    // Only an accepted setting has a function. "Ping without both" (01-048).
+    if row.error == 0 && kind == 0x02 {
+        let working = handled.settings.value(code);
+        match field.data[0] {
+            // "Functions: 1 use the value;"
+            1 => handled.settings = handled.settings.with(code, number_of(&field.data[1..])),
+            // "2 report the working value;"
+            2 => row.value = Some(working),
+            // "3 save the working value to the page;"
+            3 => {
+                handled.values = handled.values.with(code, working);
+                handled.saved = true;
+            }
+            // "4 take the page's value;" "Loading [..] take the body from the page if it has the entry, else from the
+            // factory page." (01-056)
+            4 => {
+                let loaded = handled.values.value(code).unwrap_or(FACTORY.value(code));
+                handled.settings = handled.settings.with(code, loaded);
+            }
+            // "5 take the factory value."
+            5 => handled.settings = handled.settings.with(code, FACTORY.value(code)),
+            _ => unreachable!("an accepted function is 1 to 5"),
+        }
     }
-    message(kind_of(received), &payload)
+    handled.rows.push(row);
+}
+
+/// 01-042: "Reply: the received type, and one field 80 with size 2: echo and error." 02-02.4: "The reply carries the
+/// separate replies' fields in that order."
+pub fn reply_of(kind: u8, rows: &[Row]) -> Vec<u8> {
+    let mut payload = Vec::new();
+    for row in rows {
+        payload.extend([0x80, 2, row.echo, row.error]);
+        if let Some(value) = row.value {
+            let size = value_size(row.echo).expect("a reported setting has a value");
+            payload.extend([row.echo, size as u8]);
+            payload.extend(bytes_of(value, size));
+        }
+    }
+    message(kind, &payload)
 }

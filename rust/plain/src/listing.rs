@@ -1,8 +1,9 @@
-//! The listing (01-093 to 01-097).
+//! The listing (01-093 to 01-097; 02-02.7).
 
-use crate::message::payload_of;
+use crate::message::length_of;
 use crate::number;
-use crate::port::{feed, start};
+use crate::port::{feed, start, Port};
+use crate::readers::read_reply;
 
 /// What the program prints for its whole input.
 ///
@@ -15,7 +16,7 @@ pub fn listing(input: &[u8]) -> String {
     let mut skipped = 0;
     // "It feeds on until a feed at the input's end answers 1;"
     loop {
-        let mut room = [0; 16];
+        let mut room = [0; Port::LONGEST_REPLY];
         let fed = feed(0, &board, &input[taken..], &mut room, &mut page);
         taken += fed.taken;
         skipped += fed.skipped;
@@ -24,9 +25,13 @@ pub fn listing(input: &[u8]) -> String {
             break;
         }
         // "Type and echo in two upper-case hex digits, then the error, then `saved` or `same` as the feed answered."
-        let reply = payload_of(&room);
+        // 02-02.7: "the listing prints a line for each echo."
         let mark = if fed.saved { "saved" } else { "same" };
-        printed += &format!("{:02X} {:02X} {} {}\n", room[2], reply[2], reply[3], mark);
+        let reply = &room[..length_of(&room) + 6];
+        let rows = (0..).map(|row| read_reply(reply, row)).take_while(|row| row.number == number::DONE);
+        for row in rows {
+            printed += &format!("{:02X} {:02X} {} {}\n", row.kind, row.echo, row.error, mark);
+        }
     }
     // "the counts are decimal, over the whole input."
     printed += &format!("taken {} skipped {} held {}\n", taken, skipped, board.ports[0].held);

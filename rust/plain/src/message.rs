@@ -49,6 +49,32 @@ pub fn payload_of(message: &[u8]) -> &[u8] {
     &message[4..4 + length_of(message)]
 }
 
+/// One field of a payload.
+#[derive(Clone, Copy, Debug, PartialEq, Eq)]
+pub struct Part<'a> {
+    pub code: u8,
+    /// The index in the payload of the first data byte.
+    pub place: usize,
+    /// The n data bytes.
+    pub data: &'a [u8],
+}
+
+/// 01-011: "A payload is a row of fields: code, size n, n data bytes." Nothing where "fields do not fill the payload
+/// exactly"; an empty row where the payload is empty.
+pub fn fields_of(payload: &[u8]) -> Option<Vec<Part<'_>>> {
+    let mut fields = Vec::new();
+    let mut at = 0;
+    while at < payload.len() {
+        let code = payload[at];
+        let size = usize::from(*payload.get(at + 1)?);
+        let place = at + 2;
+        let data = payload.get(place..place + size)?;
+        fields.push(Part { code, place, data });
+        at = place + size;
+    }
+    Some(fields)
+}
+
 /// Whether the last two of a message's L + 6 bytes are the sums of those before them.
 pub fn sums_right(message: &[u8]) -> bool {
     let last_of_payload = message.len() - 2;

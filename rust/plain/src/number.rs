@@ -8,7 +8,7 @@ pub const USED_UP: u8 = 1;
 pub const PORT: u8 = 16;
 /// "board unsound: a port holds over 260, or a working value is not allowed"
 pub const UNSOUND: u8 = 17;
-/// "room too small: feed under 16 bytes, otherwise under the message's length"
+/// "room too small: feed under 16 bytes, otherwise under the message's length"; since 02-02.5 a feed under 166 bytes
 pub const ROOM: u8 = 18;
 /// "page not 64 bytes"
 pub const PAGE_LENGTH: u8 = 19;
@@ -26,7 +26,7 @@ pub const FIELDS: u8 = 24;
 pub const FIELD_SIZE: u8 = 25;
 /// "payload over 255"
 pub const PAYLOAD: u8 = 26;
-/// "no field of that number, counted from 0"
+/// "no field of that number, counted from 0"; since 02-02.7 no row of that number too
 pub const NO_FIELD: u8 = 27;
 /// "command to be written is not one the board accepts"
 pub const COMMAND: u8 = 28;

@@ -1,4 +1,4 @@
-//! Ports, the board, starting and feeding (01-013 to 01-025, 01-056, 01-084 to 01-088; 02-01.3).
+//! Ports, the board, starting and feeding (01-013 to 01-025, 01-056, 01-084 to 01-088; 02-01.3, 02-02.5).
 
 use crate::handling::{handle, Settings, ACCELEROMETER, BAUD, FACTORY, GYROSCOPE};
 use crate::message::{length_of, number_of, sums_right};
@@ -18,8 +18,9 @@ impl Port {
     pub const MOST_HELD: usize = 260;
     /// The longest message.
     pub const LONGEST_MESSAGE: usize = 261;
-    /// The longest reply, and the least room of a feed.
-    pub const LONGEST_REPLY: usize = 16;
+    /// The longest reply, and the least room of a feed. 02-02.5: "The feed's room grows to 166"; a row of a reply has
+    /// at most 10 bytes, and there are at most 16.
+    pub const LONGEST_REPLY: usize = 166;
 
     pub fn fresh() -> Port {
         Port { bytes: [0; 260], held: 0 }
@@ -102,7 +103,7 @@ fn refusal(port: u8, board: &Board, room: &[u8], page: &[u8]) -> u8 {
     if board.ports.iter().any(|port| port.held > Port::MOST_HELD) || !board.settings.allowed() {
         return number::UNSOUND;
     }
-    // "18 | room too small: feed under 16 bytes"
+    // "18 | room too small: feed under 16 bytes"; 02-02.5: "The feed's room grows to 166, number 18 below that."
     if room.len() < Port::LONGEST_REPLY {
         return number::ROOM;
     }

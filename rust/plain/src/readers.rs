@@ -1,7 +1,7 @@
-//! The reply reader (01-046) and the data reader (01-089 to 01-091).
+//! The reply reader (01-046; 02-02.7) and the data reader (01-089 to 01-091).
 
-use crate::handling::{allowed, value_size, ACCELEROMETER, BAUD, GYROSCOPE};
-use crate::message::{check_message, kind_of, length_of, number_of, payload_of};
+use crate::handling::{allowed, value_size, Row, ACCELEROMETER, BAUD, GYROSCOPE};
+use crate::message::{check_message, fields_of, kind_of, number_of, payload_of, Part};
 use crate::number;
 
 /// What the reply reader answers; "a refusal [..] (a reader: zeros and an empty part)" (01-087).
@@ -11,55 +11,72 @@ pub struct Reply {
     pub kind: u8,
     pub echo: u8,
     pub error: u8,
-    /// The value of the second field, whose code is the echo.
+    /// The value of the row's second field, whose code is the echo.
     pub value: Option<u32>,
 }
 
-/// 01-084: "the reply reader 21 to 23".
-pub fn read_reply(message: &[u8]) -> Reply {
+/// Row number `row` of a reply, counted from 0. 01-084: "the reply reader 21 to 23"; 02-02.7: "by number (27 for
+/// none)".
+pub fn read_reply(message: &[u8], row: usize) -> Reply {
     let refused = |number| Reply { number, kind: 0, echo: 0, error: 0, value: None };
     let whole = check_message(message);
     if whole != number::DONE {
         return refused(whole);
     }
-
     let kind = kind_of(message);
-    let payload = payload_of(message);
-    // "The reply reader takes a field 80 of size 2"
-    if payload.len() < 4 || payload[0] != 0x80 || payload[1] != 2 {
+    let Some(rows) = rows_of(kind, payload_of(message)) else {
         return refused(number::NOT_THIS_KIND);
+    };
+    match rows.get(row) {
+        Some(&Row { echo, error, value }) => Reply { number: number::DONE, kind, echo, error, value },
+        None => refused(number::NO_FIELD),
     }
-    // "with an error of the table above, as the table stands at the time,"
-    let echo = payload[2];
-    let error = payload[3];
-    if error > 4 {
-        return refused(number::NOT_THIS_KIND);
-    }
-    // "and nothing after it;"
-    let after = &payload[4..];
-    if after.is_empty() {
-        return Reply { number: number::DONE, kind, echo, error, value: None };
-    }
+}
 
-    // "or, with type 02 and error 0,"
-    if kind != 0x02 || error != 0 {
-        return refused(number::NOT_THIS_KIND);
+/// The rows of a reply of this type; nothing where it is none.
+///
+/// 02-02.7: "The reply reader takes 1 to 16 of these rows [..], several only in types 01 and 02".
+fn rows_of(kind: u8, payload: &[u8]) -> Option<Vec<Row>> {
+    let most = if kind == 0x01 || kind == 0x02 { 16 } else { 1 };
+    let fields = fields_of(payload)?;
+    let mut rows = Vec::new();
+    let mut rest = &fields[..];
+    while let Some((first, after)) = rest.split_first() {
+        let mut row = row_of(first)?;
+        rest = after;
+        // A field 80 opens the next row: no value's code is 80.
+        if let Some((second, after)) = rest.split_first().filter(|(second, _)| second.code != 0x80) {
+            row.value = Some(value_of(kind, &row, second)?);
+            rest = after;
+        }
+        rows.push(row);
     }
-    // "one more field whose code is the echo (01, 07 or 08),"
-    if ![BAUD, ACCELEROMETER, GYROSCOPE].contains(&echo) || after[0] != echo {
-        return refused(number::NOT_THIS_KIND);
+    (1..=most).contains(&rows.len()).then_some(rows)
+}
+
+/// "The reply reader takes a field 80 of size 2 with an error of the table above, as the table stands at the time, and
+/// nothing after it;"
+fn row_of(field: &Part) -> Option<Row> {
+    match *field.data {
+        [echo, error @ 0..=4] if field.code == 0x80 => Some(Row { echo, error, value: None }),
+        _ => None,
     }
-    // "with its value size"
-    let size = value_size(echo).expect("a setting has a value");
-    if after.len() != 2 + size || usize::from(after[1]) != size {
-        return refused(number::NOT_THIS_KIND);
+}
+
+/// "or, with type 02 and error 0, one more field whose code is the echo (01, 07 or 08), with its value size and an
+/// allowed value."
+fn value_of(kind: u8, row: &Row, field: &Part) -> Option<u32> {
+    let echo = row.echo;
+    if kind != 0x02 || row.error != 0 {
+        return None;
     }
-    // "and an allowed value."
-    let value = number_of(&after[2..]);
-    if !allowed(echo, value) {
-        return refused(number::NOT_THIS_KIND);
+    if ![BAUD, ACCELEROMETER, GYROSCOPE].contains(&echo) || field.code != echo {
+        return None;
     }
-    Reply { number: number::DONE, kind, echo, error, value: Some(value) }
+    if Some(field.data.len()) != value_size(echo) {
+        return None;
+    }
+    Some(number_of(field.data)).filter(|&value| allowed(echo, value))
 }
 
 /// 01-090: "Each field read is an acceleration, a rate or an unknown one."
@@ -75,37 +92,8 @@ pub enum Field {
     Unknown { code: u8, place: usize },
 }
 
-/// One field of a row: its code, and its data bytes as a part of the message.
-struct Part {
-    code: u8,
-    place: usize,
-    size: usize,
-}
-
-/// 01-011: "A payload is a row of fields: code, size n, n data bytes." Nothing where the "fields do not fill the
-/// payload exactly".
-fn row_of_fields(message: &[u8]) -> Option<Vec<Part>> {
-    let end = 4 + length_of(message);
-    let mut fields = Vec::new();
-    let mut at = 4;
-    while at < end {
-        if at + 2 > end {
-            return None;
-        }
-        let code = message[at];
-        let size = usize::from(message[at + 1]);
-        let place = at + 2;
-        if place + size > end {
-            return None;
-        }
-        fields.push(Part { code, place, size });
-        at = place + size;
-    }
-    Some(fields)
-}
-
 /// 01-084: "the data reader 21 to 25, then 27". The field number k, or the number of the refusal.
-fn field(message: &[u8], k: usize) -> Result<Part, u8> {
+fn field(message: &[u8], k: usize) -> Result<Part<'_>, u8> {
     // "21 | not one whole message"; "22 | sums wrong"
     let whole = check_message(message);
     if whole != number::DONE {
@@ -116,9 +104,9 @@ fn field(message: &[u8], k: usize) -> Result<Part, u8> {
         return Err(number::NOT_THIS_KIND);
     }
     // "24 | fields do not fill the payload exactly"
-    let fields = row_of_fields(message).ok_or(number::FIELDS)?;
+    let fields = fields_of(payload_of(message)).ok_or(number::FIELDS)?;
     // "25 | field 81 or 82 whose size is not 12"
-    if fields.iter().any(|field| (field.code == 0x81 || field.code == 0x82) && field.size != 12) {
+    if fields.iter().any(|field| (field.code == 0x81 || field.code == 0x82) && field.data.len() != 12) {
         return Err(number::FIELD_SIZE);
     }
     // "27 | no field of that number, counted from 0"
@@ -132,11 +120,12 @@ pub fn read_field(message: &[u8], k: usize) -> (u8, Field) {
         Err(refused) => return (refused, Field::Unknown { code: 0, place: 0 }),
     };
     // "three IEEE 754 single floats X, Y, Z, a record of three axes carried bit for bit, NaN patterns too."
-    let axis = |axis: usize| number_of(&message[part.place + 4 * axis..part.place + 4 * axis + 4]);
+    let axis = |axis: usize| number_of(&part.data[4 * axis..4 * axis + 4]);
     let field = match part.code {
         0x81 => Field::Acceleration([axis(0), axis(1), axis(2)]),
         0x82 => Field::Rate([axis(0), axis(1), axis(2)]),
-        code => Field::Unknown { code, place: part.place },
+        // The payload begins behind the message's first four bytes.
+        code => Field::Unknown { code, place: 4 + part.place },
     };
     (number::DONE, field)
 }
@@ -145,7 +134,7 @@ pub fn read_field(message: &[u8], k: usize) -> (u8, Field) {
 /// part.
 pub fn field_data(message: &[u8], k: usize) -> &[u8] {
     match field(message, k) {
-        Ok(part) => &message[part.place..part.place + part.size],
+        Ok(part) => part.data,
         Err(_) => &[],
     }
 }

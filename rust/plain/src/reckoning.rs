@@ -1,4 +1,4 @@
-//! The plain reckoning (01-057 to 01-068).
+//! The plain reckoning (01-057 to 01-068; 02-02.5, 02-02.6).
 
 use crate::handling::{handle, Settings, ACCELEROMETER, BAUD, FACTORY, GYROSCOPE};
 use crate::number;
@@ -60,6 +60,19 @@ pub struct Reckoning {
     values: Values,
 }
 
+/// "A feed that the table below refuses with 16 or 18 gets the first of them that applies, no reply and no save, takes
+/// and skips 0 bytes and changes nothing."
+fn refusal(port: u8, room_length: usize) -> Option<u8> {
+    if port != 0 && port != 1 {
+        return Some(number::PORT);
+    }
+    // 02-02.5: "The feed's room grows to 166, number 18 below that."
+    if room_length < 166 {
+        return Some(number::ROOM);
+    }
+    None
+}
+
 impl Reckoning {
     /// 01-059: "The reckoning is given the page that starting got". A list of feeds begins with a page that starting
     /// accepts, so the page is blank or sound; no other page has values to reckon with.
@@ -77,14 +90,8 @@ impl Reckoning {
 
     /// "then each feed's port, chunk and length of room, and nothing of the program's answers or records."
     pub fn feed(&mut self, port: u8, chunk: &[u8], room_length: usize) -> Reckoned {
-        // "A feed that the table below refuses with 16 or 18 gets the first of them that applies, no reply and no save,
-        // takes and skips 0 bytes and changes nothing."
-        let refused = |number| Reckoned { number, taken: 0, skipped: 0, saved: false, reply: Vec::new() };
-        if port != 0 && port != 1 {
-            return refused(number::PORT);
-        }
-        if room_length < 16 {
-            return refused(number::ROOM);
+        if let Some(number) = refusal(port, room_length) {
+            return Reckoned { number, taken: 0, skipped: 0, saved: false, reply: Vec::new() };
         }
 
         // "Otherwise it is accepted:"
@@ -99,7 +106,7 @@ impl Reckoning {
             let found: Vec<(usize, usize)> = scan(&all).iter().filter_map(Event::message).collect();
             if found.len() > stream.n {
                 // "Message n + 1 is handled as above on the values kept; its reply and save mark are the feed's, the
-                // number is 0, and n grows by one."
+                // number is 0, and n grows by one." 02-02.6: "Demand 3 handles such a message as one."
                 let (place, length) = found[stream.n];
                 let handled = handle(&all[place..place + length], self.settings, self.values);
                 self.settings = handled.settings;

@@ -1,9 +1,10 @@
-//! The plain writer (01-084), the command writer (01-047, 01-048) and the data writer (01-092).
+//! The plain writer (01-084), the command writer (01-047, 01-048), the writer of one field of a command with several
+//! (02-02.1) and the data writer (01-092).
 //!
 //! 01-086: "A writer answers its number and the message's length, 0 where refused." 01-088: "A write to a room touches
 //! only the message's own bytes, from the room's front".
 
-use crate::handling::{allowed, value_size, ACCELEROMETER, BAUD, GYROSCOPE, PING};
+use crate::handling::{allowed, codes_of, value_size, PING};
 use crate::message::{bytes_of, message};
 use crate::number;
 
@@ -25,27 +26,51 @@ pub fn write_message(kind: u8, payload: &[u8], room: &mut [u8]) -> (u8, usize) {
     put(&message(kind, payload), room)
 }
 
+/// One field of a command of this type. 01-048: "Functions 2 to 5 are written without a value, Ping without both; what
+/// is not written is not looked at." Nothing where the board does not accept a message of this type with this field.
+fn command_field(kind: u8, code: u8, function: u8, value: u32) -> Option<Vec<u8>> {
+    if !codes_of(kind).contains(&code) {
+        return None;
+    }
+    if code == PING {
+        return Some(vec![PING, 0]);
+    }
+    match function {
+        1 if allowed(code, value) => {
+            let size = value_size(code).expect("a setting has a value");
+            let mut field = vec![code, 1 + size as u8, function];
+            field.extend(bytes_of(value, size));
+            Some(field)
+        }
+        2..=5 => Some(vec![code, 1, function]),
+        _ => None,
+    }
+}
+
 /// 01-047: "The command writer is given a code, a function and a value." 01-084: "the command writer 28, 18".
 pub fn write_command(code: u8, function: u8, value: u32, room: &mut [u8]) -> (u8, usize) {
-    // "28 | command to be written is not one the board accepts"
-    let refused = (number::COMMAND, 0);
-    match code {
-        // "Functions 2 to 5 are written without a value, Ping without both; what is not written is not looked at."
-        PING => put(&message(0x01, &[PING, 0]), room),
-        BAUD | ACCELEROMETER | GYROSCOPE => match function {
-            1 => {
-                if !allowed(code, value) {
-                    return refused;
-                }
-                let size = value_size(code).expect("a setting has a value");
-                let mut payload = vec![code, 1 + size as u8, function];
-                payload.extend(bytes_of(value, size));
-                put(&message(0x02, &payload), room)
-            }
-            2..=5 => put(&message(0x02, &[code, 1, function]), room),
-            _ => refused,
-        },
-        _ => refused,
+    let kind = if code == PING { 0x01 } else { 0x02 };
+    match command_field(kind, code, function, value) {
+        Some(field) => put(&message(kind, &field), room),
+        // "28 | command to be written is not one the board accepts"
+        None => (number::COMMAND, 0),
+    }
+}
+
+/// Puts one field of a command of this type behind the first `length` bytes of the room, a payload that is being made;
+/// the plain writer makes the message. It is no call of the papers'. 28, then 18 where the room has not `length` bytes
+/// and those of the field. Answers the number and the payload's new length, 0 where refused; touches only the field's
+/// own bytes.
+pub fn append_field(kind: u8, code: u8, function: u8, value: u32, length: usize, room: &mut [u8]) -> (u8, usize) {
+    let Some(field) = command_field(kind, code, function, value) else {
+        return (number::COMMAND, 0);
+    };
+    match room.get_mut(length..) {
+        Some(left) if left.len() >= field.len() => {
+            left[..field.len()].copy_from_slice(&field);
+            (number::DONE, length + field.len())
+        }
+        _ => (number::ROOM, 0),
     }
 }
 

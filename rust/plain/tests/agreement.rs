@@ -6,7 +6,7 @@
 mod common;
 
 use common::Both;
-use plain::generate::{self, Behind, Call, Rng};
+use plain::generate::{self, fields, Behind, Call, Rng};
 use plain::*;
 
 fn setting(name: &str, otherwise: u64) -> u64 {
@@ -79,6 +79,18 @@ fn feed_and_reckoning() {
     }
 }
 
+/// Lists of messages of several fields.
+#[test]
+fn several_fields() {
+    let mut rng = Rng::new(setting("SEED", 0) ^ 0xF1E1D);
+    for place in 0..setting("LISTS", 2000) {
+        let page = generate::sound_page(&mut rng);
+        let pieces = rng.between(1, 4);
+        let list = fields::calls_with_fields(&mut rng, &page, pieces);
+        run_or_shrink(&format!("list {place}"), &page, &list);
+    }
+}
+
 fn run_or_shrink(name: &str, page: &[u8], list: &[Call]) {
     if let Err(text) = run(page, list) {
         let short = generate::shrink(list, |list| run(page, list).is_err());
@@ -136,6 +148,16 @@ fn in_one_row(port: u8, board: &Board, chunk: &[u8], room: &mut [u8], page: &mut
     fed
 }
 
+/// A beginning of a stream, or of a message of several fields.
+fn any_chunk(rng: &mut Rng, pieces: usize) -> Vec<u8> {
+    let mut chunk = match rng.below(3) {
+        0 => fields::piece_with_fields(rng),
+        _ => generate::stream(rng, pieces),
+    };
+    chunk.truncate(generate::chunk_length(rng));
+    chunk
+}
+
 #[test]
 fn boards_of_any_contents() {
     let mut rng = Rng::new(setting("SEED", 0) ^ 0xB0A2D);
@@ -144,9 +166,7 @@ fn boards_of_any_contents() {
         let port = generate::port(&mut rng);
         let board = generate::board(&mut rng);
         let pieces = rng.below(4);
-        let mut chunk = generate::stream(&mut rng, pieces);
-        let most = generate::chunk_length(&mut rng);
-        chunk.truncate(most);
+        let chunk = any_chunk(&mut rng, pieces);
         let mut room = vec![0x77; generate::room(&mut rng)];
         let mut page = generate::page(&mut rng);
         let (given_room, given_page) = (room.clone(), page.clone());
@@ -158,7 +178,7 @@ fn boards_of_any_contents() {
             16
         } else if over || !board.settings.allowed() {
             17
-        } else if room.len() < 16 {
+        } else if room.len() < 166 {
             18
         } else {
             check_page(&given_page)
@@ -193,7 +213,7 @@ fn cutting_changes_nothing() {
             for chunk in chunks {
                 let mut rest = &chunk[..];
                 loop {
-                    let mut room = [0; 16];
+                    let mut room = [0; Port::LONGEST_REPLY];
                     let fed = feed(1, &board, rest, &mut room, &mut page);
                     rest = &rest[fed.taken..];
                     skipped += fed.skipped;

@@ -3,7 +3,7 @@
 mod common;
 
 use common::Both;
-use plain::generate::{self, Behind, Call, Rng};
+use plain::generate::{self, fields, Behind, Call, Rng};
 use plain::*;
 use std::collections::BTreeSet;
 
@@ -32,6 +32,11 @@ fn cut_and_joined() {
     assert!(empty > 500);
 }
 
+/// The error in the first row of the reply.
+fn first_error(received: &[u8]) -> u8 {
+    handle(received, FACTORY, Values::default()).rows[0].error
+}
+
 /// All lengths, types, errors, and each function under each code, accepted, come in the messages.
 #[test]
 fn messages_reach_everything() {
@@ -46,14 +51,15 @@ fn messages_reach_everything() {
         assert_eq!(check_message(&good), 0);
         lengths.insert(good[3]);
         kinds.insert(good[2]);
-        errors.insert((good[2].min(3), error_of(&good)));
-        if error_of(&good) == 0 && good[2] == 0x02 {
+        let error = first_error(&good);
+        errors.insert((good[2].min(3), error));
+        if error == 0 && good[2] == 0x02 {
             accepted.insert((good[4], good[6], good[5] > 1));
         }
         let other = generate::damaged(&mut rng);
         if check_message(&other) == 22 {
             damaged += 1;
-            assert_eq!(error_of(&other), 1);
+            assert_eq!(first_error(&other), 1);
         }
     }
     assert_eq!(lengths.len(), 256);
@@ -64,6 +70,81 @@ fn messages_reach_everything() {
     // Function 1 with its value, 2 to 5 with and without, under three codes.
     assert_eq!(accepted.len(), 3 * (1 + 2 * 4));
     assert!(damaged > 20_000, "{damaged}");
+}
+
+/// Of messages of several fields: each count up to 17, one field's errors at each place, payloads that are not filled.
+#[test]
+fn several_fields_reach_everything() {
+    let mut rng = Rng::new(7);
+    let mut counts = BTreeSet::new();
+    let mut errors = BTreeSet::new();
+    let mut saved = 0;
+    for _ in 0..100_000 {
+        let received = fields::several(&mut rng);
+        assert_eq!(check_message(&received), 0);
+        let payload = &received[4..received.len() - 2];
+        counts.insert((received[2].min(3), fields_of(payload).map(|fields| fields.len())));
+        let handled = handle(&received, FACTORY, Values::default());
+        saved += usize::from(handled.saved);
+        for (place, row) in handled.rows.iter().enumerate() {
+            errors.insert((received[2].min(3), place, row.error, row.value.is_some()));
+        }
+        for kind in [0x01, 0x02] {
+            assert_eq!(fields_of(&fields::unfilled(&mut rng, kind)), None);
+        }
+    }
+    for kind in [0x01, 0x02] {
+        assert!(counts.contains(&(kind, None)) && (0..=17).all(|count| counts.contains(&(kind, Some(count)))));
+        for place in 0..16 {
+            assert!([0, 3, 4].iter().all(|&error| errors.contains(&(kind, place, error, false))), "{place}");
+        }
+    }
+    assert!((0..16).all(|place| errors.contains(&(2, place, 0, true))));
+    assert!(saved > 10_000, "{saved}");
+}
+
+/// Of replies: each count of rows up to 16 is read in types 01 and 02, and each is refused where something is wrong.
+#[test]
+fn replies_of_rows_reach_everything() {
+    let mut rng = Rng::new(8);
+    let mut read = BTreeSet::new();
+    let mut refused = BTreeSet::new();
+    for _ in 0..200_000 {
+        let reply = fields::reply_of_rows(&mut rng);
+        let rows = (0..).take_while(|&row| read_reply(&reply, row).number == 0).count();
+        let fields = fields_of(&reply[4..reply.len() - 2]);
+        if rows == 0 {
+            refused.insert((reply[2].min(3), fields.map(|fields| fields.len())));
+        } else {
+            read.insert((reply[2].min(3), rows));
+        }
+    }
+    for kind in [0x01, 0x02] {
+        assert!((1..=16).all(|rows| read.contains(&(kind, rows))));
+        assert!((0..=18).all(|fields| refused.contains(&(kind, Some(fields)))) && refused.contains(&(kind, None)));
+    }
+    assert!(read.contains(&(3, 1)) && !read.contains(&(3, 2)));
+}
+
+/// Three settings at a time: what is used is saved, and loaded after others were used.
+#[test]
+fn three_settings_are_loaded() {
+    let mut rng = Rng::new(9);
+    for _ in 0..2000 {
+        let mut both = Both::blank();
+        let stream = fields::three_settings(&mut rng);
+        let mut rest = &stream[..];
+        let mut saved = 0;
+        while !rest.is_empty() {
+            let answer = both.feed(0, rest);
+            assert_eq!(answer.number, 0);
+            saved += usize::from(answer.saved);
+            rest = &rest[answer.taken..];
+        }
+        assert_eq!(saved, 1);
+        assert_eq!(both.board, start(&both.page).1);
+        assert_eq!(both.page[0], 3);
+    }
 }
 
 /// A run stands in front of what it is to stand before; both good and damaged messages have runs in them.

@@ -3,7 +3,7 @@
 mod common;
 
 use common::hex;
-use plain::generate::{self, Rng};
+use plain::generate::{self, fields, Rng};
 use plain::*;
 
 /// Every code, function and value that matters: what is written is accepted by the board, what is refused is not.
@@ -31,7 +31,7 @@ fn command_writer() {
                     None => assert_eq!(answer, (28, 0)),
                     Some(payload) => {
                         let written = message(if code == 0x02 { 0x01 } else { 0x02 }, &payload);
-                        assert_eq!(error_of(&written), 0);
+                        assert_eq!(handle(&written, FACTORY, Values::default()).rows[0].error, 0);
                         if length < written.len() {
                             assert_eq!(answer, (18, 0));
                         } else {
@@ -47,6 +47,69 @@ fn command_writer() {
     // A range over 255 is none of the allowed ones, and 28 comes before 18.
     assert_eq!(write_command(0x08, 1, 0x103, &mut []), (28, 0));
     assert_eq!(write_command(0x08, 1, 0x003, &mut []), (18, 0));
+}
+
+/// A field is written behind what stands in the room, or refused: 28 exactly where a message with it alone is not
+/// accepted, then 18.
+#[test]
+fn field_writer() {
+    let mut rng = Rng::new(27);
+    for kind in [0, 1, 2, 3, 0x7C, 0xA5, 255] {
+        for code in 0..=255u8 {
+            for function in (0..=6).chain([0x81, 255]) {
+                let value = generate::value(&mut rng, code);
+                let size = value_size(code).unwrap_or(0);
+                let field = match (kind, code, function) {
+                    (1, 0x02, _) => Some(vec![0x02, 0]),
+                    (2, 0x01 | 0x07 | 0x08, 1) if allowed(code, value) => {
+                        Some([&[code, 1 + size as u8, 1], &value.to_be_bytes()[4 - size..]].concat())
+                    }
+                    (2, 0x01 | 0x07 | 0x08, 2..=5) => Some(vec![code, 1, function]),
+                    _ => None,
+                };
+                let (length, room_length) = (rng.below(12), rng.below(20));
+                let mut room = vec![0x33; room_length];
+                let answer = append_field(kind, code, function, value, length, &mut room);
+                let mut expected_room = vec![0x33; room_length];
+                match field {
+                    None => assert_eq!(answer, (28, 0)),
+                    Some(field) if room_length < length + field.len() => assert_eq!(answer, (18, 0), "{field:?}"),
+                    Some(field) => {
+                        let end = length + field.len();
+                        assert_eq!(answer, (0, end));
+                        expected_room[length..end].copy_from_slice(&field);
+                        assert_eq!(handle(&message(kind, &field), FACTORY, Values::default()).rows[0].error, 0);
+                    }
+                }
+                assert_eq!(room, expected_room);
+            }
+        }
+    }
+}
+
+/// A payload made of fields is a command of that many, which the board accepts; a length over the room is 18.
+#[test]
+fn payload_of_written_fields() {
+    let mut payload = [0; 15];
+    let mut length = 0;
+    for (code, value) in [(0x01, 921600), (0x07, 4), (0x08, 7)] {
+        let answer = append_field(0x02, code, 1, value, length, &mut payload);
+        assert_eq!(answer.0, 0);
+        length = answer.1;
+    }
+    assert_eq!(payload[..length], hex("010501000E1000 07020104 08020107"));
+    assert_eq!(append_field(0x02, 0x08, 2, 0, length, &mut payload), (18, 0));
+    for length in [15, 16, 300, usize::MAX - 2, usize::MAX] {
+        assert_eq!(append_field(0x01, 0x02, 0, 0, length, &mut payload), (18, 0));
+        assert_eq!(append_field(0x02, 0x02, 0, 0, length, &mut payload), (28, 0));
+    }
+    let mut room = [0; 261];
+    assert_eq!(write_message(0x02, &payload, &mut room), (0, 21));
+    let handled = handle(&room[..21], FACTORY, Values::default());
+    assert_eq!(handled.settings, Settings { baud: 921600, accelerometer: 4, gyroscope: 7 });
+    assert_eq!(handled.rows.len(), 3);
+    // A range over 255 is none of the allowed ones.
+    assert_eq!(append_field(0x02, 0x08, 1, 0x103, 0, &mut payload), (28, 0));
 }
 
 #[test]
@@ -92,20 +155,25 @@ fn whole_messages() {
 #[test]
 fn reply_reader() {
     let nothing = |number| Reply { number, kind: 0, echo: 0, error: 0, value: None };
-    let read = |kind: u8, text: &str| read_reply(&message(kind, &hex(text)));
     let reply = |kind, echo, error, value| Reply { number: 0, kind, echo, error, value };
 
-    assert_eq!(read_reply(&hex(common::P1_REPLY)), reply(1, 2, 0, None));
-    assert_eq!(read_reply(&hex("A5A5020780020800080103E9A4")), reply(2, 8, 0, Some(3)));
-    assert_eq!(read_reply(&hex("A5A5A5048002020178A8")), reply(0xA5, 2, 1, None));
-    assert_eq!(read_reply(&[]), nothing(21));
-    assert_eq!(read_reply(&hex("A5A5A5048002020178A9")), nothing(22));
+    assert_eq!(read_reply(&hex(common::P1_REPLY), 0), reply(1, 2, 0, None));
+    assert_eq!(read_reply(&hex("A5A5020780020800080103E9A4"), 0), reply(2, 8, 0, Some(3)));
+    assert_eq!(read_reply(&hex("A5A5A5048002020178A8"), 0), reply(0xA5, 2, 1, None));
+    assert_eq!(read_reply(&[], 0), nothing(21));
+    assert_eq!(read_reply(&hex("A5A5A5048002020178A9"), 0), nothing(22));
 
     for error in 0..=255 {
         let expected = if error <= 4 { reply(0x63, 9, error, None) } else { nothing(23) };
-        assert_eq!(read_reply(&message(0x63, &[0x80, 2, 9, error])), expected);
+        assert_eq!(read_reply(&message(0x63, &[0x80, 2, 9, error]), 0), expected);
     }
-    assert_eq!(read(2, "80020100 0104 0001C200"), reply(2, 1, 0, Some(115200)));
+    assert_eq!(read_reply(&message(2, &hex("80020100 0104 0001C200")), 0), reply(2, 1, 0, Some(115200)));
+}
+
+/// Nothing else is a reply.
+#[test]
+fn no_replies() {
+    let nothing = Reply { number: 23, kind: 0, echo: 0, error: 0, value: None };
     for (kind, text) in [
         (1, ""),
         (1, "80"),
@@ -130,18 +198,91 @@ fn reply_reader() {
         (2, "80020100 0104 0001C200 00"),
         (2, "80020700 0701 02 0701 02"),
     ] {
-        assert_eq!(read(kind, text), nothing(23), "{kind:02X} {text}");
+        assert_eq!(read_reply(&message(kind, &hex(text)), 0), nothing, "{kind:02X} {text}");
     }
+}
 
-    // What the board replies is read.
+/// "1 to 16 of these rows by number (27 for none), several only in types 01 and 02".
+#[test]
+fn reply_rows() {
+    let nothing = |number| Reply { number, kind: 0, echo: 0, error: 0, value: None };
+    let row = |kind, echo, error, value| Reply { number: 0, kind, echo, error, value };
+    let three = message(2, &hex("80020100 0104000E1000 80026303 80020800 080107"));
+    let expected = [row(2, 1, 0, Some(921600)), row(2, 0x63, 3, None), row(2, 8, 0, Some(7))];
+    for (place, row) in expected.into_iter().enumerate() {
+        assert_eq!(read_reply(&three, place), row);
+    }
+    for place in [3, 4, 16, usize::MAX] {
+        assert_eq!(read_reply(&three, place), nothing(27));
+    }
+    assert_eq!(read_reply(&three[1..], 3), nothing(21));
+    let mut damaged = three;
+    damaged[8] ^= 1;
+    assert_eq!(read_reply(&damaged, 3), nothing(22));
+
+    // One row in any type, 2 to 16 in types 01 and 02, none and 17 in none.
+    for kind in 0..=255 {
+        for count in 0..=18 {
+            let reply = message(kind, &hex("80020904").repeat(count));
+            let most = if kind == 1 || kind == 2 { 16 } else { 1 };
+            for place in [0, 1, 15, 16, 17] {
+                let expected = match (1..=most).contains(&count) {
+                    false => nothing(23),
+                    true if place < count => row(kind, 9, 4, None),
+                    true => nothing(27),
+                };
+                assert_eq!(read_reply(&reply, place), expected);
+            }
+        }
+    }
+    let full = message(2, &hex("80020100 0104 0001C200").repeat(16));
+    assert_eq!(read_reply(&full, 15), row(2, 1, 0, Some(115200)));
+    // An echo of 80 is no value's code: a field 80 behind it opens the next row.
+    assert_eq!(read_reply(&message(2, &hex("80028000 80020200")), 1), row(2, 2, 0, None));
+}
+
+/// One wrong row is enough, whichever is asked for.
+#[test]
+fn wrong_rows() {
+    for (kind, text) in [
+        (1, "80020700 070102"),        // a value in type 01
+        (2, "80020701 070102"),        // a value after an error
+        (2, "80020700 080102"),        // of another code
+        (2, "80020700 070102 070102"), // two values
+        (2, "80020700 070102 080102"), // two values
+        (2, "80020200 020102"),        // of a code without a value
+        (2, "80020700 0700"),          // of another size
+        (2, "80020700 070105"),        // not allowed
+        (2, "8003070000"),             // 80 of size 3
+        (2, "800107"),                 // 80 of size 1
+        (2, "8000"),                   // 80 of size 0
+        (2, "80020705"),               // no error of the table
+        (2, "070102"),                 // a value without a row
+        (2, "80020700 07"),            // not filled
+        (2, "80020700 80"),            // not filled
+    ] {
+        for (before, after) in [("", ""), ("80020200", ""), ("", "80020200"), ("80020204", "80020204")] {
+            let reply = message(kind, &[hex(before), hex(text), hex(after)].concat());
+            for place in 0..4 {
+                assert_eq!(read_reply(&reply, place).number, 23, "{kind:02X} {before} {text} {after}");
+            }
+        }
+    }
+}
+
+/// What the board replies is read: as many rows as handling gives, each as it is.
+#[test]
+fn replies_are_read() {
     let mut rng = Rng::new(80);
-    for _ in 0..20_000 {
-        let received = generate::any_good(&mut rng);
+    for turn in 0..40_000 {
+        let received = if turn % 2 == 0 { generate::any_good(&mut rng) } else { fields::several(&mut rng) };
         let settings = generate::allowed_settings(&mut rng);
         let handled = handle(&received, settings, generate::values(&mut rng));
-        let read = read_reply(&handled.reply);
-        assert_eq!((read.number, read.kind, read.error), (0, received[2], handled.error));
-        assert_eq!(read.value.is_some(), handled.reply.len() > 10);
+        for (place, &Row { echo, error, value }) in handled.rows.iter().enumerate() {
+            let expected = Reply { number: 0, kind: received[2], echo, error, value };
+            assert_eq!(read_reply(&handled.reply, place), expected);
+        }
+        assert_eq!(read_reply(&handled.reply, handled.rows.len()).number, 27);
     }
 }
 

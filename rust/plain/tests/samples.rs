@@ -1,5 +1,5 @@
-//! The sample lines P1 to P12 (01-100 to 01-111; P7 as 02-01.4 has it) and what is "Run and compared" (01-113), on the
-//! feed and on the plain reckoning at once.
+//! The sample lines P1 to P12 (01-100 to 01-111; P7 as 02-01.4 has it) and what is "Run and compared" (01-113, with the
+//! room of 02-02.5), on the feed and on the plain reckoning at once.
 
 mod common;
 
@@ -139,8 +139,8 @@ fn lengths() {
                 (true, false) => 3,
                 (true, true) => 4,
             };
-            // L = 1: the code alone.
-            assert_eq!(error(kind, &[code]), expected);
+            // L = 1: the code alone. "there L = 1 and unknown codes become 4" (02-02.8).
+            assert_eq!(error(kind, &[code]), if known { 4 } else { 2 });
             // L = 255: no command is so long.
             let mut payload = vec![code, 253];
             payload.resize(255, 0x01);
@@ -166,14 +166,15 @@ fn held() {
     let mut board = start(&page).1;
     board.ports[0].bytes.copy_from_slice(&longest[..260]);
     board.ports[0].held = 260;
-    let mut room = [0; 16];
+    let mut room = [0; Port::LONGEST_REPLY];
     let fed = feed(0, &board, &[], &mut room, &mut page.clone());
     assert_eq!((fed.number, fed.taken, fed.skipped), (1, 0, 0));
     assert_eq!(fed.board, board);
     let fed = feed(0, &board, &longest[260..], &mut room, &mut page.clone());
     assert_eq!((fed.number, fed.taken, fed.skipped), (0, 1, 0));
     assert_eq!(fed.board, start(&page).1);
-    assert_eq!(room[6..8], [0x11, 3]);
+    // Fields of 19 bytes do not fill it.
+    assert_eq!(room[6..8], [0x11, 4]);
 
     // The last sum is wrong: 260 are held afterwards.
     let fed = feed(0, &board, &[longest[260] ^ 1], &mut room, &mut page.clone());
@@ -186,11 +187,11 @@ fn held() {
             let mut board = start(&page).1;
             board.ports[port].held = held;
             for fed_port in 0..2 {
-                let mut room = [7; 16];
+                let mut room = [7; 166];
                 let fed = feed(fed_port, &board, &hex(P1), &mut room, &mut page.clone());
                 let given = Fed { number: 17, taken: 0, skipped: 0, saved: false, board };
                 assert_eq!(fed, given);
-                assert_eq!(room, [7; 16]);
+                assert_eq!(room, [7; 166]);
             }
             assert_eq!(feed(2, &board, &[], &mut [], &mut []).number, 16);
             assert_eq!(feed(1, &board, &[], &mut [], &mut []).number, 17);
@@ -253,7 +254,7 @@ fn functions() {
     assert!(both.feed(0, &message(0x02, &[0x08, 1, 3])).saved);
     let report = both.feed(0, &message(0x02, &[0x01, 1, 2]));
     assert_eq!(report.reply, message(0x02, &hex("80020100 0104 0001C200")));
-    assert_eq!(report.reply.len(), Port::LONGEST_REPLY);
+    assert_eq!(report.reply.len(), 16);
     assert!(!report.saved);
 }
 
@@ -272,17 +273,17 @@ fn bauds() {
     }
 }
 
-/// "room 15 and 16"
+/// "room 15 and 16", which 02-02.5 makes 165 and 166
 #[test]
 fn rooms() {
     let mut both = Both::blank();
-    for room in [0, 10, 15] {
+    for room in [0, 10, 15, 16, 165] {
         let answer = both.try_feed(0, &hex(P1), room).unwrap();
         assert_eq!((answer.number, answer.taken), (18, 0));
         // 16 comes first.
         assert_eq!(both.try_feed(2, &hex(P1), room).unwrap().number, 16);
     }
-    for room in [16, 17, 300] {
+    for room in [166, 167, 300] {
         let answer = both.try_feed(0, &hex(P1), room).unwrap();
         assert_eq!((answer.number, answer.taken), (0, 8));
     }
@@ -303,16 +304,16 @@ fn pages() {
         let mut page = vec![0xFF; length];
         assert_eq!(check_page(&page), expected);
         assert_eq!(start(&page), (expected, fresh));
-        let mut room = [9; 16];
+        let mut room = [9; 166];
         let fed = feed(0, &fresh, &hex(P1), &mut room, &mut page);
         assert_eq!(fed.number, expected);
         assert_eq!(fed.taken, if expected == 0 { 8 } else { 0 });
         if expected != 0 {
-            assert_eq!(room, [9; 16]);
+            assert_eq!(room, [9; 166]);
             assert_eq!(fed.board, fresh);
         }
         // 18 comes before 19.
-        assert_eq!(feed(0, &fresh, &[], &mut [0; 15], &mut page).number, 18);
+        assert_eq!(feed(0, &fresh, &[], &mut [0; 165], &mut page).number, 18);
     }
     for (text, expected) in [
         ("01 010404 0001C200", 0),
@@ -334,7 +335,7 @@ fn pages() {
         assert_eq!(check_page(&page), expected, "{text}");
         assert_eq!(start(&page).0, expected, "{text}");
         let mut fed_page = page.clone();
-        let fed = feed(0, &fresh, &hex("A5A50203010103 547F"), &mut [0; 16], &mut fed_page);
+        let fed = feed(0, &fresh, &hex("A5A50203010103 547F"), &mut [0; 166], &mut fed_page);
         assert_eq!(fed.number, expected);
         if expected != 0 {
             assert_eq!(fed_page, page);
@@ -344,20 +345,21 @@ fn pages() {
     assert_eq!(board.settings, Settings { baud: 921600, accelerometer: 2, gyroscope: 7 });
 }
 
-/// "comparing the size byte before the code (L = 4 with code 63 and wrong size is 3)"
+/// "comparing the size byte before the code (L = 4 with code 63 and wrong size is 3)": where the fields fill the
+/// payload this stands. Where they do not, 02-02.8 turns it over: "there L = 1 and unknown codes become 4".
 #[test]
 fn code_before_size() {
-    assert_eq!(error(0x02, &[0x63, 9, 1, 1]), 3);
+    // A size that is wrong for every setting.
+    assert_eq!(error(0x02, &[0x63, 3, 1, 1, 1]), 3);
     assert_eq!(error(0x02, &[0x02, 0]), 3);
     assert_eq!(error(0x01, &[0x01, 1, 2]), 3);
-    assert_eq!(error(0x01, &[0x02, 1]), 4);
     assert_eq!(error(0x01, &[0x02, 1, 0]), 4);
+    // Not filled.
+    assert_eq!(error(0x02, &[0x63, 9, 1, 1]), 4);
+    assert_eq!(error(0x01, &[0x02, 1]), 4);
     assert_eq!(error(0x01, &[0x02, 0, 0]), 4);
     assert_eq!(error(0x02, &[0x07, 1, 1, 2]), 4);
     assert_eq!(error(0x02, &[0x07, 3, 1, 2]), 4);
-    // A command has exactly one field.
-    assert_eq!(error(0x01, &[0x02, 0, 0x02, 0]), 4);
-    assert_eq!(error(0x02, &[0x07, 2, 1, 2, 0x08, 2, 1, 3]), 4);
 }
 
 /// "A command inside the payload of a good message is therefore no command; one inside a damaged message still is

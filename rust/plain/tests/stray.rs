@@ -148,7 +148,7 @@ fn a_run_in_held_bytes() {
 
     let mut board = start(&[0xFF; 64]).1;
     board.ports[1] = Port { bytes: [0xA5; 260], held: 260 };
-    let fed = feed(1, &board, &[], &mut [0; 16], &mut [0xFF; 64]);
+    let fed = feed(1, &board, &[], &mut [0; Port::LONGEST_REPLY], &mut [0xFF; 64]);
     assert_eq!((fed.number, fed.taken, fed.skipped), (1, 0, 258));
     assert_eq!(fed.board.ports[1].held, 2);
 }
@@ -277,7 +277,8 @@ fn type_a5_is_never_found() {
 #[test]
 fn runs_in_a_payload() {
     for length in 0..=255 {
-        // Code A5 is unknown: error 3.
+        // No field: error 3. Of A5 A5 and 165 bytes the code is unknown: error 3. Others are not filled: error 4.
+        let error = if length == 0 || length == 2 + 0xA5 { 3 } else { 4 };
         let bytes = message(0x02, &vec![0xA5; length]);
         for cut in (0..bytes.len()).step_by(1 + length / 16) {
             let mut both = Both::blank();
@@ -285,7 +286,7 @@ fn runs_in_a_payload() {
             assert_eq!((answer.number, answer.taken, answer.skipped), (1, cut, 0));
             let answer = both.feed(0, &bytes[cut..]);
             assert_eq!((answer.number, answer.taken, answer.skipped), (0, bytes.len() - cut, 0));
-            assert_eq!(answer.reply[7], 3);
+            assert_eq!(answer.reply[7], error);
             assert_eq!(both.held(0), 0);
         }
     }

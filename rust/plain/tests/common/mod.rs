@@ -2,7 +2,7 @@
 
 #![allow(dead_code)]
 
-use plain::{feed, start, Board, Fed, Reckoned, Reckoning};
+use plain::{feed, start, Board, Fed, Port, Reckoned, Reckoning};
 
 /// "Blanks are only for the eye."
 pub fn hex(text: &str) -> Vec<u8> {
@@ -89,7 +89,7 @@ impl Both {
     }
 
     pub fn feed(&mut self, port: u8, chunk: &[u8]) -> Answer {
-        let answer = self.try_feed(port, chunk, 16).unwrap();
+        let answer = self.try_feed(port, chunk, Port::LONGEST_REPLY).unwrap();
         self.compare_state().unwrap();
         answer
     }

@@ -19,8 +19,8 @@ returns : tie.Need-returns
 returns c =
     let s = c .before .before .before .before .before .before .before .before .before .before .before .before .before .before .before .before .args in
     let t = c .before .before .before .before .before .before .before .before .step-port in
-    fed-first (s .t1) (stepOf (heldBytes (s .t1 .first)) (s .t1 .settings) (s .chunk .now) (s .room .now) (s .page .now))
-    (t .result) (t .last .0) (t .last .1 .1 .1 .1 .0) (t .last .1 .1 .1 .1 .1 .0) (search (t, needs))
+    fed-first (s .t2) (stepOf (s .port) (heldBytes (s .t2 .first)) (s .t2 .settings) (s .chunk .now) (s .room .now) (s .page .now))
+    (t .result) (t .last .1 .0) (t .last .1 .1 .1 .1 .1 .0) (t .last .1 .1 .1 .1 .1 .1 .0) (search (t, needs))
 
 pub feed-first-spec : {M : Type 1} → statement M
 feed-first-spec = tie.close (tie.spec step-port-requires same-length same-length-2 returns)

@@ -1,5 +1,5 @@
--- `client::reader::read_reply` meets its contract: a refusal by its number, or what the payload gives.
-use Rattle.client.proofs.Readings.{read-refused, read-type, read-sums, read-header, read-passed}
+-- `client::reader::read_reply` meets its contract: a refusal by its number, or what the rows of the payload give.
+use Rattle.client.proofs.Readings.{read-refused, read-type, read-sums, read-header, read-most, read-passed}
 use borrow.Author.Needs.{needs}
 use Rattle.client.proofs.reader.read_reply.Statement.{statement}
 use Rattle.client.proofs.reader.read_reply.Tie as tie
@@ -13,23 +13,23 @@ no-reply-requires c κs = search needs
 returns : tie.Need-returns
 returns c = search (read-refused, needs)
 
-shared-slice-read-read-payload : tie.Need-shared-slice-read-read-payload
-shared-slice-read-read-payload c = search (read-type, needs)
+shared-slice-read-read-rows : tie.Need-shared-slice-read-read-rows
+shared-slice-read-read-rows c = search (read-type, needs)
 
-sub-read-payload : tie.Need-sub-read-payload
-sub-read-payload c = search (read-sums, needs)
+sub-read-rows : tie.Need-sub-read-rows
+sub-read-rows c = search (read-sums, needs)
 
-sub-read-payload-2 : tie.Need-sub-read-payload-2
-sub-read-payload-2 c = search (read-header, needs)
+sub-read-rows-2 : tie.Need-sub-read-rows-2
+sub-read-rows-2 c = search (read-header, needs)
 
-part-read-payload-start : tie.Need-part-read-payload-start
-part-read-payload-start c = search (read-header, needs)
+part-read-rows-start : tie.Need-part-read-rows-start
+part-read-rows-start c = search (read-header, needs)
 
-part-read-payload-end : tie.Need-part-read-payload-end
-part-read-payload-end c = search needs
+part-read-rows-end : tie.Need-part-read-rows-end
+part-read-rows-end c = search needs
 
-read-payload-requires : tie.Need-read-payload-requires
-read-payload-requires c κs = search needs
+read-rows-requires : tie.Need-read-rows-requires
+read-rows-requires c κs = search (read-most, needs)
 
 returns-2 : tie.Need-returns-2
 returns-2 c = search (read-passed, needs)
@@ -41,10 +41,10 @@ read-reply-spec =
     check-message-requires
     no-reply-requires
     returns
-    shared-slice-read-read-payload
-    sub-read-payload
-    sub-read-payload-2
-    part-read-payload-start
-    part-read-payload-end
-    read-payload-requires
+    shared-slice-read-read-rows
+    sub-read-rows
+    sub-read-rows-2
+    part-read-rows-start
+    part-read-rows-end
+    read-rows-requires
     returns-2)

@@ -1,23 +1,34 @@
--- `command::errors::error_of` meets its contract: the tests of the type, then those of the field.
-use Rattle.command.proofs.Tests.{error-type, error-of-field}
+-- `command::errors::field_error` meets its contract: each `return` is a test.
+use Rattle.command.proofs.Tests.{error-unknown, error-field, error-none}
 use borrow.Author.Needs.{needs}
-use Rattle.command.proofs.errors.error_of.Statement.{statement}
-use Rattle.command.proofs.errors.error_of.Tie as tie
-
-type-error-requires : tie.Need-type-error-requires
-type-error-requires c κs = search needs
-
-returns : tie.Need-returns
-returns c = search (error-type, needs)
+use Rattle.command.proofs.errors.field_error.Statement.{statement}
+use Rattle.command.proofs.errors.field_error.Tie as tie
 
 subject-of-requires : tie.Need-subject-of-requires
 subject-of-requires c κs = search needs
 
-field-error-requires : tie.Need-field-error-requires
-field-error-requires c κs = search needs
+is-unknown-requires : tie.Need-is-unknown-requires
+is-unknown-requires c κs = search needs
+
+returns : tie.Need-returns
+returns c = search (error-unknown, needs)
+
+field-wrong-requires : tie.Need-field-wrong-requires
+field-wrong-requires c κs = search needs
 
 returns-2 : tie.Need-returns-2
-returns-2 c = search (error-of-field, needs)
+returns-2 c = search (error-field, needs)
 
-pub error-of-spec : {M : Type 1} → statement M
-error-of-spec = tie.close (tie.spec type-error-requires returns subject-of-requires field-error-requires returns-2)
+returns-3 : tie.Need-returns-3
+returns-3 c = search (error-none, needs)
+
+pub field-error-spec : {M : Type 1} → statement M
+field-error-spec =
+    tie.close
+    (tie.spec
+    subject-of-requires
+    is-unknown-requires
+    returns
+    field-wrong-requires
+    returns-2
+    returns-3)

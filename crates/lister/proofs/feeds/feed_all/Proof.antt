@@ -10,10 +10,10 @@ use Rattle.lister.proofs.feeds.feed_all.Statement.{statement}
 use Rattle.lister.proofs.feeds.feed_all.Tie as tie
 
 abbrev Inv-loop : tie.InvT-loop
-Inv-loop bytes₀ piece page₀ out₀ p₀ at₀ bytes page out p at = (at ≤ length piece) × (length piece < 18446744073709551616) × (length bytes ≡ length bytes₀) × (length page ≡ length page₀) × (length out ≡ length out₀)
+Inv-loop bytes₀ piece page₀ out₀ reply₀ p₀ at₀ bytes page out reply p at = (at ≤ length piece) × (length piece < 18446744073709551616) × (length bytes ≡ length bytes₀) × (length page ≡ length page₀) × (length out ≡ length out₀) × (length reply ≡ 166)
 
 abbrev μ-loop : tie.MeasureT-loop
-μ-loop bytes₀ piece page₀ out₀ p₀ at₀ bytes page out p at = p .held + (length piece - at)
+μ-loop bytes₀ piece page₀ out₀ reply₀ p₀ at₀ bytes page out reply p at = p .held + (length piece - at)
 
 loop-holds : tie.Need-loop-holds Inv-loop μ-loop
 loop-holds c = search needs
@@ -26,6 +26,9 @@ part-feed-start c = search needs
 
 part-feed-end : tie.Need-part-feed-end Inv-loop μ-loop
 part-feed-end c = search needs
+
+slice-aggregate-feed : tie.Need-slice-aggregate-feed Inv-loop μ-loop
+slice-aggregate-feed c = search needs
 
 feed-requires : tie.Need-feed-requires Inv-loop μ-loop
 feed-requires c κs = search needs
@@ -44,7 +47,7 @@ returns c = search needs
 
 add-at : tie.Need-add-at Inv-loop μ-loop
 add-at c =
-    let l : c .before .before .before .before .before .before .before .before .before .before .before .before .before .before .loop .at + c .before .before .before .before .before .before .before .before .before .feed .result .last ≤ length (now (c .before .before .before .before .before .before .before .before .before .before .before .before .before .before .before .before .before .before .before .args .piece)) = search (piece-inside, needs) in
+    let l : c .before .before .before .before .before .before .before .before .before .before .before .before .before .before .before .before .loop .at + c .before .before .before .before .before .before .before .before .before .before .feed .result .last ≤ length (now (c .before .before .before .before .before .before .before .before .before .before .before .before .before .before .before .before .before .before .before .before .before .args .piece)) = search (piece-inside, needs) in
     omega arith
 
 loop-less : tie.Need-loop-less Inv-loop μ-loop
@@ -63,6 +66,7 @@ feed-all-spec =
     sub-feed
     part-feed-start
     part-feed-end
+    slice-aggregate-feed
     feed-requires
     same-length
     same-length-2

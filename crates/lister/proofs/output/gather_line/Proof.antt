@@ -11,15 +11,6 @@ use Rattle.lister.proofs.output.gather_line.Tie as tie
 with-room-requires : tie.Need-with-room-requires
 with-room-requires c κs = search needs
 
-element-copy-out-write-line : tie.Need-element-copy-out-write-line
-element-copy-out-write-line c = search needs
-
-element-copy-out-write-line-2 : tie.Need-element-copy-out-write-line-2
-element-copy-out-write-line-2 c = search needs
-
-element-copy-out-write-line-3 : tie.Need-element-copy-out-write-line-3
-element-copy-out-write-line-3 c = search needs
-
 sub-write-line : tie.Need-sub-write-line
 sub-write-line c = search needs
 
@@ -34,8 +25,8 @@ write-line-requires c κs = search needs
 
 add-result : tie.Need-add-result
 add-result c =
-    let from = c .before .before .before .before .before .before .before .before .with-room .result in
-    let l : from + c .before .before .before .write-line .result .length ≤ length (now (c .before .before .before .before .before .before .before .before .before .before .before .args .out)) = search (gathered-within, needs) in
+    let from = c .before .before .before .before .before .with-room .result in
+    let l : from + c .before .before .before .write-line .result .length ≤ length (now (c .before .before .before .before .before .before .before .before .args .out)) = search (gathered-within, needs) in
     omega arith
 
 same-length : tie.Need-same-length
@@ -49,9 +40,6 @@ gather-line-spec =
     tie.close
     (tie.spec
     with-room-requires
-    element-copy-out-write-line
-    element-copy-out-write-line-2
-    element-copy-out-write-line-3
     sub-write-line
     part-write-line-start
     part-write-line-end

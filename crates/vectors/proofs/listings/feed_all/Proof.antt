@@ -31,8 +31,8 @@ after-requires c κs = search needs
 returns : tie.Need-returns Inv-loop μ-loop
 returns c = search needs
 
-with-line-requires : tie.Need-with-line-requires Inv-loop μ-loop
-with-line-requires c κs = search needs
+with-lines-requires : tie.Need-with-lines-requires Inv-loop μ-loop
+with-lines-requires c κs = search needs
 
 add-turn : tie.Need-add-turn Inv-loop μ-loop
 add-turn c = search needs
@@ -59,7 +59,7 @@ feed-all-spec =
     feed-requires
     after-requires
     returns
-    with-line-requires
+    with-lines-requires
     add-turn
     loop-less
     loop-again

@@ -4,9 +4,6 @@ use borrow.Author.Needs.{needs}
 use Rattle.lister.proofs.feeds.Progress.feed.Statement.{statement}
 use Rattle.lister.proofs.feeds.Progress.feed.Tie as tie
 
-slice-aggregate-feed-in-place : tie.Need-slice-aggregate-feed-in-place
-slice-aggregate-feed-in-place c = search needs
-
 feed-in-place-requires : tie.Need-feed-in-place-requires
 feed-in-place-requires c κs = search needs
 
@@ -28,6 +25,9 @@ same-length-2 c = search needs
 same-length-3 : tie.Need-same-length-3
 same-length-3 c = search needs
 
+same-length-4 : tie.Need-same-length-4
+same-length-4 c = search needs
+
 returns : tie.Need-returns
 returns c = search (fed-moves, needs)
 
@@ -35,7 +35,6 @@ pub feed-spec : {M : Type 1} → statement M
 feed-spec =
     tie.close
     (tie.spec
-    slice-aggregate-feed-in-place
     feed-in-place-requires
     wrapping-add-u64-requires
     wrapping-add-u64-requires-2
@@ -43,4 +42,5 @@ feed-spec =
     same-length
     same-length-2
     same-length-3
+    same-length-4
     returns)

@@ -1,0 +1,148 @@
+-- What request 02 left of the handling of one field.
+use Prim.Native.Nat.{ℕ, zero, suc, _+_, _≤_}
+use native.Mathlib.Omega.{arith}
+use mathlib.Core.Path.{_≡_, refl, sym, ap, _∙_}
+use mathlib.Core.Bool.{Bool, true, false, _||_, not, cond}
+use mathlib.Core.List.{List, [], _∷_, append-nil}
+use mathlib.Core.Option.{none, some}
+use lib.Dec.{eqb}
+use lib.ListN.{length, getD, drop}
+use borrow.Author.Tests.{eq-eqb, ne-eqb, eqb-true}
+use Rattle.stream.proofs.Bools.{differ}
+use Rattle.message.specs.Fields.{Field, fieldBytes, fieldsOf}
+use Rattle.message.specs.Whole.{refuse}
+use Rattle.message.proofs.FieldRows.{fields-fill, fields-back}
+use Rattle.command.specs.declared.command.Command.{Command}
+use Rattle.command.specs.declared.command.Subject.{Subject}
+use Rattle.command.specs.Command.{commandOf, commandsOf, subjectOf}
+use Rattle.command.specs.Errors.{isUnknown, fieldWrong, fieldError, isKind, messageError}
+use Rattle.command.specs.Effects.{fieldEffect, effectOn, effectOf}
+use Rattle.command.specs.Outcome.{Access, State, Outcome, Received, idle, rowOutcome, effectOutcome, thenOutcome, fieldOutcome, fieldsOutcome, fieldsIn, messageOn, messageOutcome}
+use Rattle.command.specs.Before.{oneField, oneCommand, errorBefore, outcomeBefore, Beside, OneAsBefore}
+use Rattle.command.proofs.Separate.{then-idle}
+
+module _ {P : Type 0} (access : Access P) (x : State P) where
+  -- ---- one field
+
+  module _ (good : Bool) (kind : ℕ) (f : Field) (s : f .size ≡ length (f .content)) where
+    abbrev alone : Received
+    alone = record { good = good; kind = kind; payload = fieldBytes f }
+
+    filled : eqb (f .size + 2) (length (fieldBytes f)) ≡ true
+    filled = eq-eqb (f .size + 2) (length (fieldBytes f)) (omega arith)
+
+    long : eqb (length (fieldBytes f)) 1 ≡ false
+    long = ne-eqb (length (fieldBytes f)) 1 (λ e. omega arith)
+
+    some-bytes : eqb (length (fieldBytes f)) 0 ≡ false
+    some-bytes = ne-eqb (length (fieldBytes f)) 0 (λ e. omega arith)
+
+    field-alone : fieldsOf (fieldBytes f) ≡ some (f ∷ [])
+    field-alone = ap fieldsOf (sym (append-nil (fieldBytes f))) ∙ fields-back (f ∷ []) (s, tt)
+
+    module _ (g : good ≡ true) (k : isKind kind ≡ true) where
+      passes : messageError good kind (fieldBytes f) ≡ 0
+      unfolding messageError
+      passes = rw (g, k, field-alone, some-bytes)
+
+      now-one : messageOutcome access x alone ≡ fieldOutcome access x (commandOf kind f)
+      unfolding messageOutcome fieldsOutcome
+      now-one = rw (passes, field-alone) (then-idle access (fieldOutcome access x (commandOf kind f)))
+
+      same-error : errorBefore alone ≡ fieldError (commandOf kind f)
+      unfolding errorBefore fieldError commandOf
+      same-error = rw (g, k, some-bytes, long, filled)
+
+      before-one : outcomeBefore access x alone ≡ fieldOutcome access x (commandOf kind f)
+      unfolding outcomeBefore fieldOutcome effectOf commandOf
+      before-one = rw same-error
+
+      both-right : messageOutcome access x alone ≡ outcomeBefore access x alone
+      both-right = now-one ∙ sym before-one
+
+  -- ---- sums wrong, another type
+
+  damaged : (m : Received) → m .good ≡ false → messageOutcome access x m ≡ outcomeBefore access x m
+  unfolding messageOutcome messageError outcomeBefore errorBefore
+  damaged m g = rw g
+
+  other : (m : Received) → m .good ≡ true → isKind (m .kind) ≡ false → messageOutcome access x m ≡ outcomeBefore access x m
+  unfolding messageOutcome messageError outcomeBefore errorBefore
+  other m g k = rw (g, k)
+
+  early : (m : Received) (g k : Bool) → m .good ≡ g → isKind (m .kind) ≡ k → not g || not k ≡ true → messageOutcome access x m ≡ outcomeBefore access x m
+  early m false k gs ks e = damaged m gs
+  early m true false gs ks e = other m gs ks
+  early m true true gs ks e = differ (sym e)
+
+  -- ---- any sums and type
+
+  one-field : (m : Received) (f : Field) → fieldsOf (m .payload) ≡ some (f ∷ []) → messageOutcome access x m ≡ outcomeBefore access x m
+  one-field m f e = go (m .good) (isKind (m .kind)) refl refl
+    where
+      r : (fieldBytes f ≡ m .payload) × (f .size ≡ length (f .content))
+      r = let h = fields-fill (m .payload) (f ∷ []) e in (sym (append-nil (fieldBytes f)) ∙ h .0, h .1 .0)
+
+      go : (g k : Bool) → m .good ≡ g → isKind (m .kind) ≡ k → messageOutcome access x m ≡ outcomeBefore access x m
+      go false k gs ks = damaged m gs
+      go true false gs ks = other m gs ks
+      go true true gs ks =
+          let b = both-right (m .good) (m .kind) f (r .1) gs ks in
+          let q : alone (m .good) (m .kind) f (r .1) ≡ m = ap (λ (l : List ℕ). record { good = m .good; kind = m .kind; payload = l }) (r .0) in
+          ap (messageOutcome access x) (sym q) ∙ b ∙ ap (outcomeBefore access x) q
+
+  no-field : (m : Received) → m .payload ≡ [] → messageOutcome access x m ≡ outcomeBefore access x m
+  unfolding messageOutcome messageError outcomeBefore errorBefore
+  no-field m e = go (m .good) (isKind (m .kind)) refl refl
+    where
+      go : (g k : Bool) → m .good ≡ g → isKind (m .kind) ≡ k → messageOutcome access x m ≡ outcomeBefore access x m
+      go false k gs ks = damaged m gs
+      go true false gs ks = other m gs ks
+      go true true gs ks = rw (gs, ks, e)
+
+  -- ---- a payload that fields do not fill
+
+  module _ (m : Received) (g : m .good ≡ true) (k : isKind (m .kind) ≡ true) (e : fieldsOf (m .payload) ≡ none) where
+    some-bytes-there : eqb (length (m .payload)) 0 ≡ false
+    unfolding fieldsOf
+    some-bytes-there = go (m .payload) e
+      where
+        go : (l : List ℕ) → fieldsOf l ≡ none → eqb (length l) 0 ≡ false
+        go [] n = let z : _≡_ {A = ℕ} 0 1 = cc in absurd (omega arith)
+        go (b ∷ bs) n = ne-eqb (length (b ∷ bs)) 0 (λ z. omega arith)
+
+    unfilled : messageOutcome access x m ≡ rowOutcome (getD (m .payload) 0 0) 4 (idle x)
+    unfolding messageOutcome messageError
+    unfilled = rw (g, k, some-bytes-there, e)
+
+    -- Its size is not what is there.
+    size-wrong : (l : List ℕ) → fieldsOf l ≡ none → eqb (length l) 1 ≡ false → eqb (getD l 1 0 + 2) (length l) ≡ false
+    unfolding fieldsOf
+    size-wrong [] n o = let z : _≡_ {A = ℕ} 0 1 = cc in absurd (omega arith)
+    size-wrong (b ∷ []) n o = differ o
+    size-wrong (b ∷ c ∷ bs) n o =
+        ne-eqb (c + 2) (length (b ∷ c ∷ bs))
+        (λ h. (let f : Field = record { code = b; size = c; content = bs } in
+        let a : fieldsOf (fieldBytes f) ≡ some (f ∷ []) = field-alone true 0 f (omega arith) in
+        let z : _≡_ {A = ℕ} 0 1 = cc in
+        omega arith))
+
+    unfilled-before : outcomeBefore access x m ≡ rowOutcome (getD (m .payload) 0 0) (cond (isUnknown (subjectOf (m .kind) (getD (m .payload) 0 0))) 3 4) (idle x)
+    unfolding outcomeBefore errorBefore
+    unfilled-before = go (isUnknown (subjectOf (m .kind) (getD (m .payload) 0 0))) refl (eqb (length (m .payload)) 1) refl
+      where
+        go : (u : Bool) → isUnknown (subjectOf (m .kind) (getD (m .payload) 0 0)) ≡ u → (o : Bool) → eqb (length (m .payload)) 1 ≡ o
+            → outcomeBefore access x m ≡ rowOutcome (getD (m .payload) 0 0) (cond (isUnknown (subjectOf (m .kind) (getD (m .payload) 0 0))) 3 4) (idle x)
+        go true us o os = rw (g, k, some-bytes-there, us)
+        go false us true os = rw (g, k, some-bytes-there, us, os)
+        go false us false os = rw (g, k, some-bytes-there, us, os, size-wrong (m .payload) e os)
+
+pub one-as-before : OneAsBefore
+one-as-before P access x m =
+    record {
+      one-field = one-field access x m;
+      no-field = no-field access x m;
+      refused = early access x m (m .good) (isKind (m .kind)) refl refl;
+      unfilled = unfilled access x m;
+      unfilled-before = unfilled-before access x m;
+    }

@@ -1,0 +1,67 @@
+-- The rows of a field are at least 4 bytes and at most 10.
+use Prim.Native.Nat.{ℕ, zero, suc, _*_, _≤_}
+use native.Mathlib.Omega.{arith}
+use mathlib.Core.List.{List, [], _∷_}
+use lib.ListN.{length, length-append}
+use Rattle.page.specs.declared.setting.Setting.{Setting}
+use Rattle.page.specs.declared.setting.Setting.the-variants.{Baud, Accelerometer, Gyroscope}
+use Rattle.message.specs.Fields.{Field}
+use Rattle.command.specs.declared.settings.Settings.{Settings}
+use Rattle.command.specs.declared.command.Command.{Command}
+use Rattle.command.specs.declared.command.Subject.{Subject}
+use Rattle.command.specs.declared.command.Subject.the-variants.{Ping, Setting as About, Unknown}
+use Rattle.command.specs.Command.{commandOf, commandsOf, valueFor, subjectOf}
+use Rattle.command.specs.Errors.{fieldError}
+use Rattle.command.specs.Effects.{workingValue, valueRow, functionEffect, fieldEffect, effectOn, effectOf}
+use Rattle.command.specs.Outcome.{Access, State, fieldOutcome, fieldsOutcome}
+
+row-most : (s : Setting) (x : ℕ) → length (valueRow s x) ≤ 6
+row-most Baud x = omega arith
+row-most Accelerometer x = omega arith
+row-most Gyroscope x = omega arith
+
+pub function-row : (f : ℕ) (loaded : Setting → ℕ) (w : Settings) (s : Setting) (x : ℕ) → length (functionEffect f loaded w s x .row) ≤ 6
+function-row zero loaded w s x = omega arith
+function-row (suc zero) loaded w s x = omega arith
+function-row (suc (suc zero)) loaded w s x = row-most s (workingValue w s)
+function-row (suc (suc (suc zero))) loaded w s x = omega arith
+function-row (suc (suc (suc (suc zero)))) loaded w s x = omega arith
+function-row (suc (suc (suc (suc (suc f))))) loaded w s x = omega arith
+
+field-row : (subject : Subject) (loaded : Setting → ℕ) (w : Settings) (c : Command) → length (fieldEffect subject loaded w c .row) ≤ 6
+field-row Ping loaded w c = omega arith
+field-row (About s) loaded w c = function-row (c .function) loaded w s (valueFor s c)
+field-row Unknown loaded w c = omega arith
+
+pub effect-row : (loaded : Setting → ℕ) (w : Settings) (c : Command) → length (effectOf loaded w c .row) ≤ 6
+unfolding effectOf
+effect-row loaded w c = go (fieldError c)
+  where
+    go : (n : ℕ) → length (effectOn n (fieldEffect (subjectOf (c .kind) (c .code)) loaded w c) w .row) ≤ 6
+    go zero = field-row (subjectOf (c .kind) (c .code)) loaded w c
+    go (suc n) = omega arith
+
+module _ {P : Type 0} (access : Access P) where
+  pub outcome-most : (x : State P) (c : Command) → length (fieldOutcome access x c .rows) ≤ 10
+  unfolding fieldOutcome
+  outcome-most x c = omega (arith, effect-row (access .loaded (x .page)) (x .settings) c)
+
+  pub outcome-least : (x : State P) (c : Command) → 4 ≤ length (fieldOutcome access x c .rows)
+  unfolding fieldOutcome
+  outcome-least x c = omega arith
+
+  pub outcomes-most : (x : State P) (kind : ℕ) (fs : List Field) → length (fieldsOutcome access x (commandsOf kind fs) .rows) ≤ 10 * length fs
+  unfolding fieldsOutcome
+  outcomes-most x kind [] = omega arith
+  outcomes-most x kind (f ∷ fs) =
+      let a = fieldOutcome access x (commandOf kind f) in
+      let b = fieldsOutcome access (a .next) (commandsOf kind fs) in
+      rw (length-append (a .rows) (b .rows)) (omega (arith, outcome-most x (commandOf kind f), outcomes-most (a .next) kind fs))
+
+  pub outcomes-least : (x : State P) (kind : ℕ) (fs : List Field) → 1 ≤ length fs → 4 ≤ length (fieldsOutcome access x (commandsOf kind fs) .rows)
+  unfolding fieldsOutcome
+  outcomes-least x kind [] h = absurd (omega arith)
+  outcomes-least x kind (f ∷ fs) h =
+      let a = fieldOutcome access x (commandOf kind f) in
+      let b = fieldsOutcome access (a .next) (commandsOf kind fs) in
+      rw (length-append (a .rows) (b .rows)) (omega (arith, outcome-least x (commandOf kind f)))

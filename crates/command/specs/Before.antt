@@ -1,0 +1,56 @@
+-- Document 01's handling before request 02, when a message had one field, and what the request left of it. Nothing else speaks of
+-- these definitions.
+use mathlib.Core.Path.{_≡_}
+use mathlib.Core.Bool.{Bool, true, _||_, not, cond}
+use mathlib.Core.List.{List, [], _∷_}
+use mathlib.Core.Option.{none, some}
+use Prim.Native.Nat.{ℕ, _+_}
+use lib.Dec.{eqb}
+use lib.ListN.{length, getD, drop}
+use Rattle.message.specs.Fields.{Field, fieldsOf}
+use Rattle.message.specs.Whole.{refuse}
+use Rattle.command.specs.declared.command.Command.{Command}
+use Rattle.command.specs.Command.{commandOf, subjectOf}
+use Rattle.command.specs.Errors.{isUnknown, fieldWrong, isKind}
+use Rattle.command.specs.Effects.{fieldEffect, effectOn}
+use Rattle.command.specs.Outcome.{Access, State, Outcome, Received, idle, rowOutcome, effectOutcome, messageOutcome}
+
+-- The whole payload as one field, whatever its size says.
+abbrev pub oneField : List ℕ → Field
+oneField payload = record { code = getD payload 0 0; size = getD payload 1 0; content = drop 2 payload }
+
+abbrev pub oneCommand : Received → Command
+oneCommand m = commandOf (m .kind) (oneField (m .payload))
+
+-- 1: sums wrong. 2: type neither 01 nor 02. 3: L = 0, or the code is not one of this type's. 4: L = 1; size is not L - 2; size
+-- wrong; function not 1 to 5; value not allowed. 0: otherwise.
+unfoldable pub errorBefore : Received → ℕ
+errorBefore m =
+    refuse (not (m .good)) 1
+    (refuse (not (isKind (m .kind))) 2
+    (refuse (eqb (length (m .payload)) 0 || isUnknown (subjectOf (m .kind) (getD (m .payload) 0 0))) 3
+    (refuse (eqb (length (m .payload)) 1 || not (eqb (getD (m .payload) 1 0 + 2) (length (m .payload))) || fieldWrong (subjectOf (m .kind) (getD (m .payload) 0 0)) (oneCommand m)) 4
+    0)))
+
+unfoldable pub outcomeBefore : {P : Type 0} → Access P → State P → Received → Outcome P
+outcomeBefore access x m =
+    rowOutcome (getD (m .payload) 0 0) (errorBefore m)
+    (effectOutcome (access .save)
+    (effectOn (errorBefore m) (fieldEffect (subjectOf (m .kind) (getD (m .payload) 0 0)) (access .loaded (x .page)) (x .settings) (oneCommand m)) (x .settings))
+    x)
+
+-- What a message is handled to, now and before.
+pub record Beside {P : Type 0} (access : Access P) (x : State P) (m : Received) : Type 0 where
+  -- One field, no field, wrong sums, another type: as before.
+  pub one-field : (f : Field) → fieldsOf (m .payload) ≡ some (f ∷ []) → messageOutcome access x m ≡ outcomeBefore access x m
+  pub no-field : m .payload ≡ [] → messageOutcome access x m ≡ outcomeBefore access x m
+  pub refused : not (m .good) || not (isKind (m .kind)) ≡ true → messageOutcome access x m ≡ outcomeBefore access x m
+  -- A payload that fields do not fill, L = 1 among them: 4 now. Before, it was 3 where its first byte is an unknown code, else 4.
+  pub unfilled : m .good ≡ true → isKind (m .kind) ≡ true → fieldsOf (m .payload) ≡ none
+      → messageOutcome access x m ≡ rowOutcome (getD (m .payload) 0 0) 4 (idle x)
+  pub unfilled-before : m .good ≡ true → isKind (m .kind) ≡ true → fieldsOf (m .payload) ≡ none
+      → outcomeBefore access x m ≡ rowOutcome (getD (m .payload) 0 0) (cond (isUnknown (subjectOf (m .kind) (getD (m .payload) 0 0))) 3 4) (idle x)
+
+-- Proof: Before `one-as-before`.
+abbrev pub OneAsBefore : Type 1
+OneAsBefore = (P : Type 0) (access : Access P) (x : State P) (m : Received) → Beside access x m

@@ -1,0 +1,116 @@
+-- Document 01, "Handling one message", and request 02: what a field, and a message of 1 to 16 fields, leave; and the reply. Over any
+-- keeping of the page's values: the board keeps a page of 64 bytes, the plain reckoning the values under codes.
+use mathlib.Core.Bool.{Bool, true, false, _||_}
+use mathlib.Core.List.{List, [], _∷_, _++_}
+use mathlib.Core.Option.{Option, none, some}
+use Prim.Native.Nat.{ℕ, zero, suc}
+use lib.ListN.{getD}
+use Rattle.page.specs.declared.setting.Setting.{Setting}
+use Rattle.message.specs.Fields.{Field, fieldsOf}
+use Rattle.message.specs.Message.{messageOf, typeOf, payloadOf}
+use Rattle.command.specs.declared.settings.Settings.{Settings}
+use Rattle.command.specs.declared.command.Command.{Command}
+use Rattle.command.specs.Command.{commandsOf}
+use Rattle.command.specs.Errors.{fieldError, messageError}
+use Rattle.command.specs.Effects.{workingValue, Effect, effectOf}
+
+-- ---- what handling is given
+
+-- A message as handling sees it: whether its sums are right, its type and its payload.
+pub record Received : Type 0 where
+  pub good : Bool
+  pub kind : ℕ
+  pub payload : List ℕ
+
+-- The message at the front of some bytes.
+unfoldable pub receivedOf : Bool → List ℕ → Received
+receivedOf good m = record { good = good; kind = typeOf m; payload = payloadOf m }
+
+-- What a message may do on the board: the port that it came on (no rule asks for it yet), the value that is loaded of a setting,
+-- and the page with a value saved.
+pub record Access (P : Type 0) : Type 0 where
+  pub port : ℕ
+  pub loaded : P → Setting → ℕ
+  pub save : P → Setting → ℕ → P
+
+-- The working values, and the page.
+pub record State (P : Type 0) : Type 0 where
+  pub settings : Settings
+  pub page : P
+
+-- ---- what handling gives
+
+-- The fields of the reply, whether a save was accepted, and what is left.
+pub record Outcome (P : Type 0) : Type 0 where
+  pub rows : List ℕ
+  pub saved : Bool
+  pub next : State P
+
+-- The reply has the received type.
+abbrev pub replyOf : {P : Type 0} → ℕ → Outcome P → List ℕ
+replyOf kind o = messageOf kind (o .rows)
+
+-- A row of the reply: one field 80 with size 2, echo and error; an accepted function 2 adds a second field.
+abbrev pub replyRows : ℕ → ℕ → List ℕ → List ℕ
+replyRows echo error row = 0x80 ∷ 0x02 ∷ echo ∷ error ∷ row
+
+module _ {P : Type 0} where
+  -- Nothing is done.
+  abbrev pub idle : State P → Outcome P
+  idle x = record { rows = []; saved = false; next = x }
+
+  -- The row with echo and error in front.
+  abbrev pub rowOutcome : ℕ → ℕ → Outcome P → Outcome P
+  rowOutcome echo error o = record { rows = replyRows echo error (o .rows); saved = o .saved; next = o .next }
+
+  -- One after the other.
+  abbrev pub thenOutcome : Outcome P → Outcome P → Outcome P
+  thenOutcome a b = record { rows = a .rows ++ b .rows; saved = a .saved || b .saved; next = b .next }
+
+-- ---- one field
+
+-- Was a save accepted?
+abbrev pub isSave : Option Setting → Bool
+isSave none = false
+isSave (some s) = true
+
+module _ {P : Type 0} (save : P → Setting → ℕ → P) where
+  -- A save puts the working value in, and nothing else changes the page.
+  abbrev pub pageAfter : Option Setting → Settings → P → P
+  pageAfter none w page = page
+  pageAfter (some s) w page = save page s (workingValue w s)
+
+  -- What an effect leaves, and the field that it adds to the reply.
+  abbrev pub effectOutcome : Effect → State P → Outcome P
+  effectOutcome e x =
+      record {
+        rows = e .row;
+        saved = isSave (e .saves);
+        next = record { settings = e .settings; page = pageAfter (e .saves) (x .settings) (x .page) };
+      }
+
+module _ {P : Type 0} (access : Access P) where
+  -- One field handled: its row has its code and its error.
+  unfoldable pub fieldOutcome : State P → Command → Outcome P
+  fieldOutcome x c = rowOutcome (c .code) (fieldError c) (effectOutcome (access .save) (effectOf (access .loaded (x .page)) (x .settings) c) x)
+
+  -- The fields in order, each on what those before it left.
+  unfoldable pub fieldsOutcome : State P → List Command → Outcome P
+  fieldsOutcome x [] = idle x
+  fieldsOutcome x (c ∷ cs) = thenOutcome (fieldOutcome x c) (fieldsOutcome (fieldOutcome x c .next) cs)
+
+-- ---- one message
+
+-- The fields of a payload, none where they do not fill it.
+abbrev pub fieldsIn : Option (List Field) → List Field
+fieldsIn none = []
+fieldsIn (some fs) = fs
+
+module _ {P : Type 0} (access : Access P) where
+  -- A message that is refused as a whole changes nothing and gets one row, which echoes the first payload byte, or 0 if L = 0.
+  abbrev pub messageOn : ℕ → State P → ℕ → List ℕ → Outcome P
+  messageOn zero x kind payload = fieldsOutcome access x (commandsOf kind (fieldsIn (fieldsOf payload)))
+  messageOn (suc n) x kind payload = rowOutcome (getD payload 0 0) (suc n) (idle x)
+
+  unfoldable pub messageOutcome : State P → Received → Outcome P
+  messageOutcome x m = messageOn (messageError (m .good) (m .kind) (m .payload)) x (m .kind) (m .payload)

@@ -1,0 +1,159 @@
+//! Reply readers and writers of fields that are wrong in one point.
+
+use crate::calls::FieldGiven;
+use crate::faults::Fault;
+use ketphiroj::ffi::{self, FlatReply, Written};
+use plain::{Part, Row};
+
+/// What a reader with the fault answers of one row; none for faults of other calls, and for what is no whole message.
+pub fn read(fault: Fault, message: &[u8], row: usize) -> Option<FlatReply> {
+    if !OF_ROWS.contains(&fault) || plain::check_message(message) != 0 {
+        return None;
+    }
+    let kind = message[2];
+    let refused = |number| FlatReply { number, kind: 0, echo: 0, error: 0, has_value: false, value: 0 };
+    let Some(rows) =
+        plain::fields_of(&message[4..message.len() - 2]).and_then(|fields| rows(fault, kind, &fields, row))
+    else {
+        return Some(refused(23));
+    };
+    let found = match fault {
+        Fault::NoRowAsLast => rows.get(row).or(rows.last()),
+        Fault::RowsFromOne => row.checked_sub(1).and_then(|row| rows.get(row)),
+        // A value counts as a row of its own.
+        Fault::RowsCountedAsFields => {
+            rows.iter().flat_map(|row| vec![row; 1 + usize::from(row.value.is_some())]).nth(row)
+        }
+        Fault::RowOf32Bits => rows.get(row as u32 as usize),
+        _ => rows.get(row),
+    };
+    Some(match found {
+        Some(&Row { echo, error, value }) => {
+            FlatReply { number: 0, kind, echo, error, has_value: value.is_some(), value: value.unwrap_or(0) }
+        }
+        None if fault == Fault::NoRowAs23 => refused(23),
+        None => refused(27),
+    })
+}
+
+const OF_ROWS: [Fault; 14] = [
+    Fault::NoRowAsLast,
+    Fault::NoRowAs23,
+    Fault::RowsFromOne,
+    Fault::RowsCountedAsFields,
+    Fault::RowOf32Bits,
+    Fault::RowsBehindUntested,
+    Fault::SeventeenRows,
+    Fault::NoRows,
+    Fault::RowsInAnyType,
+    Fault::ValueInType01,
+    Fault::ValueAfterError,
+    Fault::ValueOfAnotherCode,
+    Fault::TwoValues,
+    Fault::RowOfSize3,
+];
+
+/// The rows of a reply, with one fault in how many and where they are allowed.
+fn rows(fault: Fault, kind: u8, fields: &[Part], asked: usize) -> Option<Vec<Row>> {
+    let several = kind == 0x01 || kind == 0x02 || fault == Fault::RowsInAnyType;
+    let most = match fault {
+        Fault::SeventeenRows if several => 17,
+        _ if several => 16,
+        _ => 1,
+    };
+    let least = usize::from(fault != Fault::NoRows);
+    let read = match fault {
+        // As far as the row that is asked for is there.
+        Fault::RowsBehindUntested => {
+            let beginnings = (0..=fields.len()).rev().map(|end| read_fields(fault, kind, &fields[..end]));
+            beginnings.flatten().find(|rows| rows.len() > asked).or_else(|| read_fields(fault, kind, fields))
+        }
+        _ => read_fields(fault, kind, fields),
+    };
+    read.filter(|rows| (least..=most).contains(&rows.len()))
+}
+
+fn read_fields(fault: Fault, kind: u8, fields: &[Part]) -> Option<Vec<Row>> {
+    let mut rows: Vec<Row> = Vec::new();
+    for field in fields {
+        match *field.data {
+            [echo, error @ 0..=4] if field.code == 0x80 => rows.push(Row { echo, error, value: None }),
+            [echo, error @ 0..=4, _] if field.code == 0x80 && fault == Fault::RowOfSize3 => {
+                rows.push(Row { echo, error, value: None })
+            }
+            _ => {
+                let row = rows.last_mut()?;
+                row.value = Some(value(fault, kind, row, field)?);
+            }
+        }
+    }
+    Some(rows)
+}
+
+fn value(fault: Fault, kind: u8, row: &Row, field: &Part) -> Option<u32> {
+    let right = (kind == 0x02 || (kind == 0x01 && fault == Fault::ValueInType01))
+        && (row.error == 0 || fault == Fault::ValueAfterError)
+        && (field.code == row.echo || fault == Fault::ValueOfAnotherCode)
+        && (row.value.is_none() || fault == Fault::TwoValues)
+        && plain::value_size(field.code) == Some(field.data.len());
+    let value = field.data.iter().fold(0, |value: u32, &byte| value << 8 | u32::from(byte));
+    (right && plain::allowed(field.code, value)).then_some(value)
+}
+
+/// What a writer of one field with the fault answers.
+pub fn append(fault: Fault, given: &FieldGiven, length: usize, room: &mut [u8]) -> Written {
+    let FieldGiven { kind, code, function, value } = *given;
+    let append = |kind, value, room: &mut [u8]| ffi::append_field(kind, code, function, value, length, room);
+    match fault {
+        Fault::PingInType02 if kind == 0x02 && code == 0x02 => append(0x01, value, room),
+        Fault::UnusedValueTested if (2..=5).contains(&function) && !plain::allowed(code, value) => {
+            Written { number: 28, length: 0 }
+        }
+        Fault::FieldRangeModulo256 if code != 0x01 => append(kind, value % 256, room),
+        Fault::FieldAtTheFront => {
+            let right = append(kind, value, &mut room.to_vec());
+            if right.number == 0 {
+                ffi::append_field(kind, code, function, value, 0, room);
+            }
+            right
+        }
+        _ => after(fault, append(kind, value, room), length, room),
+    }
+}
+
+/// The right answer, changed by the fault.
+fn after(fault: Fault, written: Written, length: usize, room: &mut [u8]) -> Written {
+    match (fault, written.number) {
+        (Fault::RoomBeforeCommand, 28) if room.len() < length => Written { number: 18, length: 0 },
+        (Fault::LengthOfTheField, 0) => Written { number: 0, length: written.length - length },
+        (Fault::LengthWraps, 18) if length > room.len() && length.wrapping_add(7) <= room.len() => {
+            Written { number: 0, length: length.wrapping_add(7) }
+        }
+        (Fault::BytePastTheField, 0) => {
+            if let Some(byte) = room.get_mut(written.length) {
+                *byte = 0;
+            }
+            written
+        }
+        _ => written,
+    }
+}
+
+/// But for its fault, a wrong reader is the right one: with a fault of another call it reads what the plain reader
+/// reads.
+#[test]
+fn right_without_a_fault() {
+    use plain::generate::{fields, Rng};
+    let mut rng = Rng::new(23);
+    for _ in 0..50_000 {
+        let message = fields::reply_of_rows(&mut rng);
+        let parts = plain::fields_of(&message[4..message.len() - 2]);
+        let read = parts.and_then(|parts| rows(Fault::JunkKept, message[2], &parts, 0)).unwrap_or_default();
+        for (row, &Row { echo, error, value }) in read.iter().enumerate() {
+            let expected = plain::Reply { number: 0, kind: message[2], echo, error, value };
+            assert_eq!(plain::read_reply(&message, row), expected);
+        }
+        let number = if read.is_empty() { 23 } else { 27 };
+        assert_eq!(plain::read_reply(&message, read.len()).number, number);
+    }
+}
