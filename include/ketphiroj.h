@@ -101,8 +101,8 @@ typedef struct {
  * A command has 1 to 16 fields, which are handled in their order as separate commands would be; an error of one does not stop
  * those after it. Where the fields do not fill the payload exactly, or are more than 16, nothing is done, and the error is 4.
  * 0: a message was answered. Its reply is at the front of `room`: 4 bytes, payload, 2 bytes, where byte 3 is the length of the
- *    payload; the rest of the room is left alone. The payload has a row for each field of the command, see
- *    ketphiroj_read_reply. Where `saved`, the page was written anew, else it is as it was.
+ *    payload; the rest of the room is left alone. The payload has a row for each field of the command, or one row where its fields
+ *    are not reached, see ketphiroj_read_reply. Where `saved`, the page was written anew, else it is as it was.
  * 1: the whole chunk was taken, and there is nothing more to report. Nothing was written to the room or the page.
  * 16, 17, 18, 19, 20: refused; an array that is not 260 bytes gives 17. Nothing was taken or written, and the held count and the
  *    settings are those given.

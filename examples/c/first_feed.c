@@ -56,6 +56,10 @@ static void use_three_settings(void) {
     for (size_t i = 0; i < sizeof settings / sizeof settings[0]; i++) {
         ketphiroj_written field = ketphiroj_append_field(
             0x02, settings[i].code, 1, settings[i].value, length, payload, sizeof payload);
+        if (field.number != KETPHIROJ_DONE) { /* the length would be 0, and what stands there lost */
+            printf("field %zu: number %u\n", i, field.number);
+            return;
+        }
         length = field.length;
     }
     ketphiroj_written use = ketphiroj_write_message(0x02, payload, length, message, sizeof message);

@@ -11,7 +11,8 @@ pub struct Reply {
     /// The field's code; in the one row of a command whose fields were not reached, its first payload byte, or 0 if it
     /// had none.
     pub echo: u8,
-    /// 0 done, 1 sums wrong, 2 unknown type, 3 unknown code, 4 not allowed.
+    /// 0 done, 1 sums wrong, 2 unknown type, 3 unknown code or no field, 4 not allowed, or the fields do not fill the payload or are
+    /// more than 16.
     pub error: u8,
     /// The working value, where one was reported; its code is the echo.
     pub value: Option<u32>,

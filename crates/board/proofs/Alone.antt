@@ -1,28 +1,23 @@
 -- A good message fed alone is answered at once.
-use Prim.Native.Nat.{ℕ, zero, suc, _+_, _-_, _≤_}
+use Prim.Native.Nat.{ℕ, _+_, _-_, _≤_}
 use native.Mathlib.Omega.{arith}
 use mathlib.Core.Path.{_≡_, refl, sym, ap, _∙_}
 use mathlib.Core.Bool.{Bool, true, false, not}
-use mathlib.Core.List.{List, [], _∷_, _++_, append-nil}
-use lib.Dec.{ltb}
-use lib.ListN.{length, take, drop, drop-of-length-le}
+use mathlib.Core.List.{List, [], _∷_, append-nil}
+use lib.ListN.{length, drop-of-length-le}
 use lib.Seq.{take-all}
 use borrow.Author.Tests.{le-ltb}
-use Rattle.stream.specs.declared.Verdict.{Verdict}
 use Rattle.stream.specs.declared.Verdict.the-variants.{Whole}
-use Rattle.stream.specs.declared.Sought.{Sought}
 use Rattle.stream.specs.declared.Sought.the-variants.{Found}
-use Rattle.stream.specs.Seek.{seekOn, seek}
+use Rattle.stream.specs.Seek.{seek}
 use Rattle.message.specs.Front.{front}
 use Rattle.message.specs.Message.{messageOf}
 use Rattle.message.specs.Theorems.{RoundTrip}
 use Rattle.message.proofs.RoundTrips.{written-is-read}
-use Rattle.page.specs.Sound.{pageNumber}
 use Rattle.command.specs.declared.settings.Settings.{Settings}
 use Rattle.command.specs.Outcome.{receivedOf}
 use Rattle.command.specs.Answer.{replyRoom, answering}
 use Rattle.board.specs.declared.board.Board.{Board}
-use Rattle.board.specs.Port.{heldBytes, portOf}
 use Rattle.board.specs.Feed.{PortStep, unsound, feedNumber, stepOn, stepOf, feedOn, feedOf}
 use Rattle.board.specs.Alone.{Ready, answeredStep, FedAlone}
 

@@ -122,8 +122,8 @@ module _ (port : ℕ) (held : List ℕ) (w : Settings) (chunk room page : List �
           record {
             settings-allowed = t .settings-allowed;
             page-kept-sound = t .page-sound;
-            unsaved = λ e. t .saved .written ∙ ap (savesOn page) (t .saved .none e);
-            saved = λ e. record { saves = t .saved .saves; some-saves = t .saved .some e; written = t .saved .written };
+            unsaved = λ e. t .saved .written ∙ ap (savesOn page) (t .saved .no-save e);
+            saved = λ e. record { saves = t .saved .saves; some-saves = t .saved .at-least-one e; written = t .saved .written };
           }
 
   -- What it reports: a whole reply, or nothing; and how its counts add up.
@@ -356,7 +356,7 @@ feeds-keep port b chunk room page =
       reported = λ e. (let r = k .reported e in record { reply = r .reply; whole = r .whole; fits = r .fits; room-after = r .room-after });
       used-up = λ e. record { all-taken = k .all-taken e; no-save = k .no-save e; room-same = k .room-same e; page-same = k .page-same e; settings-same = k .settings-same e };
       sum = k .sum;
-      saved = λ e. (let s = k .saved e in record { saves = s .saves; some = s .some-saves; written = s .written });
+      saved = λ e. (let s = k .saved e in record { saves = s .saves; at-least-one = s .some-saves; written = s .written });
       unsaved = k .unsaved;
       board-sound = k .board-sound;
       page-sound = k .page-stays;

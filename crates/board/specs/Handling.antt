@@ -1,4 +1,4 @@
--- Document 01, "The plain reckoning": message n + 1 is handled on the values kept. Beside it, the same on the board's settings
+-- Document 01, "The plain reckoning": message n + 1 is handled on the values kept. NowAndBefore it, the same on the board's settings
 -- and page.
 use mathlib.Core.Bool.{true, not}
 use mathlib.Core.List.{List}

@@ -3,7 +3,7 @@ ghost use mathlib.Core.Path.{_≡_};
 ghost use Rattle.capi.specs.Flat.{isThere, numberIn, storedFrom};
 use page::Stored;
 
-// A reply as read.
+// A row of a reply as read.
 #[repr(C)]
 pub struct FlatReply {
     // document 01's number
@@ -12,7 +12,7 @@ pub struct FlatReply {
     pub kind: u8,
     pub echo: u8,
     pub error: u8,
-    // whether the reply carries a value; 0 stands for none
+    // whether the row carries a value; 0 stands for none
     pub has_value: bool,
     pub value: u32,
 }

@@ -23,7 +23,7 @@ use Rattle.command.specs.Errors.{mostFields, isKind, messageError}
 use Rattle.command.specs.Outcome.{Access, State, thenOutcome, receivedOf, fieldsOutcome, messageOutcome}
 use Rattle.command.proofs.Places.{put-length, put-front}
 use Rattle.client.specs.Writer.{codeSubject, acceptable, fieldFor, kindFor, commandMessage, Asked, askedSubject, askedField, askedRight, fieldWriting}
-use Rattle.client.specs.Commands.{askedOutcome, askedOutcomes, askedFields, allRight, WrittenIsObeyed, OneIsWritten, appendAll, AppendedAreFields}
+use Rattle.client.specs.Commands.{askedOutcome, askedOutcomes, askedFields, allRight, WrittenIsObeyed, OneIsWritten, unlessRefused, appendAll, AppendedAreFields}
 use Rattle.stream.proofs.Bools.{differ, and-both}
 use Rattle.client.proofs.Asked.{fieldAs, field-bytes, field-sized, field-most, asked-right, field-obeyed}
 
@@ -32,66 +32,66 @@ use Rattle.client.proofs.Asked.{fieldAs, field-bytes, field-sized, fiel
 -- Those that are written for what is asked.
 abbrev fieldsAs : ℕ → List Asked → List Field
 fieldsAs kind [] = []
-fieldsAs kind (a ∷ as′) = fieldAs kind a ∷ fieldsAs kind as′
+fieldsAs kind (a ∷ asks) = fieldAs kind a ∷ fieldsAs kind asks
 
 module _ (kind : ℕ) where
-  fields-bytes : (as′ : List Asked) → allRight kind as′ ≡ true → rowBytes (fieldsAs kind as′) ≡ askedFields kind as′
+  fields-bytes : (asks : List Asked) → allRight kind asks ≡ true → rowBytes (fieldsAs kind asks) ≡ askedFields kind asks
   fields-bytes [] h = refl
-  fields-bytes (a ∷ as′) h =
-      let b = and-both (askedRight kind a) (allRight kind as′) h in
-      rw (← field-bytes (askedSubject kind a) (a .function) (a .value) (b .0), fields-bytes as′ (b .1))
+  fields-bytes (a ∷ asks) h =
+      let b = and-both (askedRight kind a) (allRight kind asks) h in
+      rw (← field-bytes (askedSubject kind a) (a .function) (a .value) (b .0), fields-bytes asks (b .1))
 
-  fields-sized : (as′ : List Asked) → SizesRight (fieldsAs kind as′)
+  fields-sized : (asks : List Asked) → SizesRight (fieldsAs kind asks)
   fields-sized [] = tt
-  fields-sized (a ∷ as′) = (field-sized (askedSubject kind a) (a .function) (a .value), fields-sized as′)
+  fields-sized (a ∷ asks) = (field-sized (askedSubject kind a) (a .function) (a .value), fields-sized asks)
 
-  fields-count : (as′ : List Asked) → length (fieldsAs kind as′) ≡ length as′
+  fields-count : (asks : List Asked) → length (fieldsAs kind asks) ≡ length asks
   fields-count [] = refl
-  fields-count (a ∷ as′) = omega (arith, fields-count as′)
+  fields-count (a ∷ asks) = omega (arith, fields-count asks)
 
-  fields-most : (as′ : List Asked) → length (askedFields kind as′) ≤ 7 * length as′
+  fields-most : (asks : List Asked) → length (askedFields kind asks) ≤ 7 * length asks
   fields-most [] = omega arith
-  fields-most (a ∷ as′) =
-      rw (length-append (askedField kind a)) (omega (arith, field-most (askedSubject kind a) (a .function) (a .value), fields-most as′))
+  fields-most (a ∷ asks) =
+      rw (length-append (askedField kind a)) (omega (arith, field-most (askedSubject kind a) (a .function) (a .value), fields-most asks))
 
   -- The payload is read back to these fields.
-  fields-read : (as′ : List Asked) → allRight kind as′ ≡ true → fieldsOf (askedFields kind as′) ≡ some (fieldsAs kind as′)
-  fields-read as′ h = ap fieldsOf (sym (fields-bytes as′ h)) ∙ fields-back (fieldsAs kind as′) (fields-sized as′)
+  fields-read : (asks : List Asked) → allRight kind asks ≡ true → fieldsOf (askedFields kind asks) ≡ some (fieldsAs kind asks)
+  fields-read asks h = ap fieldsOf (sym (fields-bytes asks h)) ∙ fields-back (fieldsAs kind asks) (fields-sized asks)
 
   -- Where there is one, there are two bytes, and the type is one of a command.
-  pub fields-some : (as′ : List Asked) → allRight kind as′ ≡ true → 1 ≤ length as′ → (isKind kind ≡ true) × (2 ≤ length (askedFields kind as′))
+  pub fields-some : (asks : List Asked) → allRight kind asks ≡ true → 1 ≤ length asks → (isKind kind ≡ true) × (2 ≤ length (askedFields kind asks))
   fields-some [] h l = absurd (omega arith)
-  fields-some (a ∷ as′) h l =
-      let b = and-both (askedRight kind a) (allRight kind as′) h in
-      (asked-right kind a (b .0) .kind-right, rw (← fields-bytes (a ∷ as′) h) (omega arith))
+  fields-some (a ∷ asks) h l =
+      let b = and-both (askedRight kind a) (allRight kind asks) h in
+      (asked-right kind a (b .0) .kind-right, rw (← fields-bytes (a ∷ asks) h) (omega arith))
 
   -- They are a message that is not refused as a whole.
-  fields-pass : (as′ : List Asked) → allRight kind as′ ≡ true → 1 ≤ length as′ → length as′ ≤ mostFields → messageError true kind (askedFields kind as′) ≡ 0
+  fields-pass : (asks : List Asked) → allRight kind asks ≡ true → 1 ≤ length asks → length asks ≤ mostFields → messageError true kind (askedFields kind asks) ≡ 0
   unfolding messageError
-  fields-pass as′ h l m =
-      let s = fields-some as′ h l in
-      rw (s .0, ne-eqb (length (askedFields kind as′)) 0 (λ z. omega arith), fields-read as′ h, fields-count as′, le-ltb 16 (length as′) m)
+  fields-pass asks h l m =
+      let s = fields-some asks h l in
+      rw (s .0, ne-eqb (length (askedFields kind asks)) 0 (λ z. omega arith), fields-read asks h, fields-count asks, le-ltb 16 (length asks) m)
 
 module _ {P : Type 0} (access : Access P) (kind : ℕ) where
-  fields-obeyed : (x : State P) (as′ : List Asked) → allRight kind as′ ≡ true
-      → fieldsOutcome access x (commandsOf kind (fieldsAs kind as′)) ≡ askedOutcomes access kind x as′
+  fields-obeyed : (x : State P) (asks : List Asked) → allRight kind asks ≡ true
+      → fieldsOutcome access x (commandsOf kind (fieldsAs kind asks)) ≡ askedOutcomes access kind x asks
   unfolding fieldsOutcome
   fields-obeyed x [] h = refl
-  fields-obeyed x (a ∷ as′) h =
-      let b = and-both (askedRight kind a) (allRight kind as′) h in
-      rw (field-obeyed access kind x a (b .0)) (ap (thenOutcome (askedOutcome access kind x a)) (fields-obeyed (askedOutcome access kind x a .next) as′ (b .1)))
+  fields-obeyed x (a ∷ asks) h =
+      let b = and-both (askedRight kind a) (allRight kind asks) h in
+      rw (field-obeyed access kind x a (b .0)) (ap (thenOutcome (askedOutcome access kind x a)) (fields-obeyed (askedOutcome access kind x a .next) asks (b .1)))
 
 -- At most 112 bytes in 16 fields.
-pub fields-short : (kind : ℕ) (as′ : List Asked) → length as′ ≤ mostFields → length (askedFields kind as′) ≤ 255
-fields-short kind as′ m = omega (arith, fields-most kind as′)
+pub fields-short : (kind : ℕ) (asks : List Asked) → length asks ≤ mostFields → length (askedFields kind asks) ≤ 255
+fields-short kind asks m = omega (arith, fields-most kind asks)
 
 pub written-is-obeyed : WrittenIsObeyed
 unfolding messageOutcome receivedOf
-written-is-obeyed kind as′ h l m =
-    let t : RoundTrip kind (askedFields kind as′) = written-is-read kind (askedFields kind as′) (fields-short kind as′ m) in
+written-is-obeyed kind asks h l m =
+    let t : RoundTrip kind (askedFields kind asks) = written-is-read kind (askedFields kind asks) (fields-short kind asks m) in
     record {
       whole = t .whole;
-      outcome = λ P access x. rw (t .kind-back, t .payload-back, fields-pass kind as′ h l m, fields-read kind as′ h) (fields-obeyed access kind x as′ h);
+      outcome = λ P access x. rw (t .kind-back, t .payload-back, fields-pass kind asks h l m, fields-read kind asks h) (fields-obeyed access kind x asks h);
     }
 
 -- ---- the command writer
@@ -126,25 +126,25 @@ module _ (kind : ℕ) where
   unfolding fieldWriting
   one-appended a n room h l = rw (h, le-ltb (length room) (n + length (askedField kind a)) l)
 
-  all-appended : (as′ : List Asked) (n : ℕ) (room : List ℕ) → allRight kind as′ ≡ true → n + length (askedFields kind as′) ≤ length room
-      → (appendAll kind as′ n room .answer .length ≡ n + length (askedFields kind as′))
-      × (take (n + length (askedFields kind as′)) (appendAll kind as′ n room .room) ≡ take n room ++ askedFields kind as′)
-  all-appended [] n room h l = let z : n + 0 ≡ n = omega arith in rw (z, append-nil (take n room)) (refl, refl)
-  all-appended (a ∷ as′) n room h l =
-      let b = and-both (askedRight kind a) (allRight kind as′) h in
+  all-appended : (asks : List Asked) (n : ℕ) (room : List ℕ) → allRight kind asks ≡ true → n + length (askedFields kind asks) ≤ length room
+      → (appendAll kind asks n room .answer .number ≡ 0) × (appendAll kind asks n room .answer .length ≡ n + length (askedFields kind asks))
+      × (take (n + length (askedFields kind asks)) (appendAll kind asks n room .room) ≡ take n room ++ askedFields kind asks)
+  all-appended [] n room h l = let z : n + 0 ≡ n = omega arith in rw (z, append-nil (take n room)) (refl, refl, refl)
+  all-appended (a ∷ asks) n room h l =
+      let b = and-both (askedRight kind a) (allRight kind asks) h in
       let bs : List ℕ = askedField kind a in
-      let cs : List ℕ = askedFields kind as′ in
+      let cs : List ℕ = askedFields kind asks in
       let k : length (bs ++ cs) ≡ length bs + length cs = length-append bs cs in
       let q : n + length bs ≤ length room = omega arith in
-      let e : appendAll kind (a ∷ as′) n room ≡ appendAll kind as′ (n + length bs) (putAt n bs room) =
-      ap (λ (w : Writing). appendAll kind as′ (w .answer .length) (w .room)) (one-appended a n room (b .0) q) in
+      let e : appendAll kind (a ∷ asks) n room ≡ appendAll kind asks (n + length bs) (putAt n bs room) =
+      ap (λ (w : Writing). unlessRefused (w .answer .number) w (appendAll kind asks (w .answer .length) (w .room))) (one-appended a n room (b .0) q) in
       let p : length (putAt n bs room) ≡ length room = put-length n bs room q in
-      let r = all-appended as′ (n + length bs) (putAt n bs room) (b .1) (omega arith) in
+      let r = all-appended asks (n + length bs) (putAt n bs room) (b .1) (omega arith) in
       let m : n + length (bs ++ cs) ≡ n + length bs + length cs = omega arith in
-      rw (e, m) (r .0, r .1 ∙ rw (put-front n bs room q, append-assoc))
+      rw (e, m) (r .0, r .1, r .2 ∙ rw (put-front n bs room q, append-assoc))
 
 pub appended-are-fields : AppendedAreFields
-appended-are-fields kind as′ room h l =
-    let z : 0 + length (askedFields kind as′) ≡ length (askedFields kind as′) = omega arith in
-    let r = all-appended kind as′ 0 room h (omega arith) in
-    record { size = r .0 ∙ z; payload = rw z at (r .1) }
+appended-are-fields kind asks room h l =
+    let z : 0 + length (askedFields kind asks) ≡ length (askedFields kind asks) = omega arith in
+    let r = all-appended kind asks 0 room h (omega arith) in
+    record { done = r .0; size = r .1 ∙ z; payload = rw z at (r .2) }

@@ -26,7 +26,7 @@ use Rattle.command.specs.declared.command.Subject.{Subject}
 use Rattle.command.specs.declared.command.Subject.the-variants.{Ping, Setting as About, Unknown}
 use Rattle.command.specs.Command.{commandOf, commandsOf, subjectOf}
 use Rattle.command.specs.Errors.{fieldError, messageError, fieldsRefused, isKind}
-use Rattle.command.specs.Effects.{workingValue, valueRow, effectOf}
+use Rattle.command.specs.Effects.{workingValue, valueField, effectOf}
 use Rattle.command.specs.Outcome.{State, Received, fieldsIn, fieldOutcome, fieldsOutcome, messageOn, messageOutcome}
 use Rattle.command.specs.Answer.{loadedFrom, pageAccess}
 use Rattle.command.proofs.Accepts.{error-most}
@@ -87,7 +87,7 @@ plain-told kind echo error h bs rs t =
 
 -- One row more, with a setting's value.
 value-told : (s : Setting) (x : ℕ) → allowed s x ≡ true → (bs : List ℕ) (rs : List Row) → Told 0x02 bs rs
-    → Told 0x02 (0x80 ∷ 0x02 ∷ codeOf s ∷ 0 ∷ (valueRow s x ++ bs)) (record { echo = codeOf s; error = 0; value = Value x } ∷ rs)
+    → Told 0x02 (0x80 ∷ 0x02 ∷ codeOf s ∷ 0 ∷ (valueField s x ++ bs)) (record { echo = codeOf s; error = 0; value = Value x } ∷ rs)
 unfolding rowsOf valueAfter
 value-told s x a bs rs t =
     let l : length (valueBytes s x) ≡ valueSize s = value-length s x in
@@ -110,7 +110,7 @@ module _ (port : ℕ) (x : State (List ℕ)) (ok : Sound x) (c : Command) (bs : 
   FieldTold = Told (c .kind) (fieldOutcome (pageAccess port) x c .rows ++ bs) (record { echo = c .code; error = fieldError c; value = reported c (x .settings) } ∷ rs)
 
   -- A field that reports nothing has the plain row.
-  silent : effectOf (loadedFrom (x .page)) (x .settings) c .row ≡ [] → reported c (x .settings) ≡ Absent → FieldTold
+  silent : effectOf (loadedFrom (x .page)) (x .settings) c .report ≡ [] → reported c (x .settings) ≡ Absent → FieldTold
   unfolding FieldTold fieldOutcome
   silent r v = rw (r, v) (plain-told (c .kind) (c .code) (fieldError c) (error-most c) bs rs t)
 

@@ -5,24 +5,23 @@ use mathlib.Core.Path.{_≡_, refl, ap, sym, _∙_}
 use mathlib.Core.Bool.{Bool, true, false, _&&_, _||_, not}
 use mathlib.Core.List.{List, [], _∷_, _++_, append-assoc, append-nil}
 use lib.Dec.{eqb, leb, ltb}
-use lib.ListN.{length, take, drop, length-drop, drop-of-length-le}
-use lib.Seq.{take-all, drop-drop}
+use lib.ListN.{length, take, drop, length-append, length-drop, drop-of-length-le}
+use lib.Seq.{take-all, take-at, drop-drop}
 use borrow.Author.Tests.{ne-eqb, le-leb, lt-leb, leb-true, lt-ltb, le-ltb, not-false}
 use Rattle.word.specs.Word.{wordBytes}
 use Rattle.page.specs.declared.setting.Setting.{Setting}
 use Rattle.page.specs.declared.setting.Setting.the-variants.{Baud, Accelerometer, Gyroscope}
-use Rattle.page.specs.declared.setting.Coded.{Coded}
-use Rattle.page.specs.declared.setting.Coded.the-variants.{Setting as Known, Nothing}
-use Rattle.page.specs.Settings.{settingOf, codeOf, allowed}
+use Rattle.page.specs.Settings.{codeOf, allowed}
 use Rattle.message.specs.declared.write.Written.{Written}
-use Rattle.message.specs.Message.{messageOf}
 use Rattle.message.specs.Write.{Writing, refuseWriting, doneWriting, writingOf, plainWriting}
 use Rattle.command.specs.declared.command.Subject.{Subject}
 use Rattle.command.specs.declared.command.Subject.the-variants.{Ping, Setting as About, Unknown}
-use Rattle.command.specs.Command.{subjectOn, subjectOf}
+use Rattle.command.specs.Command.{subjectOf}
 use Rattle.command.specs.Errors.{isFunction}
-use Rattle.stream.proofs.Bools.{and-both}
-use Rattle.client.specs.Writer.{codeSubject, acceptable, fieldFor, commandMessage, commandWriting, Asked, behindWriting, fieldWriting}
+use Rattle.stream.proofs.Bools.{differ, and-both}
+use Rattle.client.specs.Writer.{codeSubject, kindFor, acceptable, fieldFor, commandMessage, commandWriting, Asked, behindWriting, fieldWriting}
+use Rattle.client.proofs.Asked.{field-most}
+use Rattle.client.proofs.Commands.{subject-ping, subject-about}
 
 -- ---- the tests of a setting's command
 
@@ -43,54 +42,15 @@ module _ (s : Setting) (f v : ℕ) where
       all true = refl
       all false = refl
 
--- ---- the field of a setting
+-- ---- the type of a code
 
--- A payload of at most 255 bytes is written as a message, and refused with 18 only.
-short-written : (kind : ℕ) (p room : List ℕ) → length p ≤ 255 → plainWriting kind p room ≡ writingOf (messageOf kind p) room
-unfolding plainWriting
-short-written kind p room h = rw (le-ltb 255 (length p) h)
+pub kind-ping : (code : ℕ) → code ≡ 0x02 → subjectOf 0x01 code ≡ codeSubject code
+unfolding subjectOf codeSubject
+kind-ping code e = rw e
 
-module _ (s : Setting) (f v code : ℕ) (w : Writing) (room : List ℕ) (k : code ≡ codeOf s) where
-  abbrev Field : Type 0
-  Field = w ≡ writingOf (messageOf 0x02 (fieldFor (About s) f v)) room
-
-  pub field-function : (f ≡ 1 → ⊥) → w ≡ plainWriting 0x02 (code ∷ 1 ∷ f ∷ []) room → Field
-  field-function n e = e ∙ short-written 0x02 (code ∷ 1 ∷ f ∷ []) room (omega arith) ∙ rw (k, ne-eqb f 1 n)
-
-  pub field-baud : f ≡ 1 → s ≡ Baud → w ≡ plainWriting 0x02 (code ∷ 5 ∷ 1 ∷ wordBytes v) room → Field
-  field-baud o t e = e ∙ short-written 0x02 (code ∷ 5 ∷ 1 ∷ wordBytes v) room (omega arith) ∙ rw (k, o, t)
-
-  pub field-accelerometer : f ≡ 1 → s ≡ Accelerometer → w ≡ plainWriting 0x02 (code ∷ 2 ∷ 1 ∷ v % 256 ∷ []) room → Field
-  field-accelerometer o t e = e ∙ short-written 0x02 (code ∷ 2 ∷ 1 ∷ v % 256 ∷ []) room (omega arith) ∙ rw (k, o, t)
-
-  pub field-gyroscope : f ≡ 1 → s ≡ Gyroscope → w ≡ plainWriting 0x02 (code ∷ 2 ∷ 1 ∷ v % 256 ∷ []) room → Field
-  field-gyroscope o t e = e ∙ short-written 0x02 (code ∷ 2 ∷ 1 ∷ v % 256 ∷ []) room (omega arith) ∙ rw (k, o, t)
-
--- ---- the writer's answers, with the room
-
-module _ (code f v : ℕ) (room : List ℕ) where
-  pub command-ping : code ≡ 0x02 → (w : Writing) → w ≡ plainWriting 0x01 (0x02 ∷ 0x00 ∷ []) room → w ≡ commandWriting code f v room
-  unfolding commandWriting commandMessage codeSubject acceptable
-  command-ping o w e = e ∙ short-written 0x01 (0x02 ∷ 0x00 ∷ []) room (omega arith) ∙ rw o
-
-  module _ (n : code ≡ 0x02 → ⊥) (x : Coded) (c : x ≡ settingOf code) where
-    subject : codeSubject code ≡ subjectOn x
-    unfolding codeSubject
-    subject = rw (ne-eqb code 0x02 n, ← c)
-
-    pub command-unknown : x ≡ Nothing → (r : Written) → r ≡ record { number = 28; length = 0 } → record { answer = r; room = room } ≡ commandWriting code f v room
-    unfolding commandWriting acceptable
-    command-unknown e r p = rw (subject, e, p)
-
-    module _ (s : Setting) (e : x ≡ Known s) (a : Bool) (t : a ≡ acceptable (About s) f v) where
-      pub command-refused : a ≡ false → (r : Written) → r ≡ record { number = 28; length = 0 }
-          → record { answer = r; room = room } ≡ commandWriting code f v room
-      unfolding commandWriting
-      command-refused q r p = rw (subject, e, ← t, q, p)
-
-      pub command-accepted : a ≡ true → (w : Writing) → w ≡ writingOf (messageOf 0x02 (fieldFor (About s) f v)) room → w ≡ commandWriting code f v room
-      unfolding commandWriting commandMessage
-      command-accepted q w h = h ∙ rw (subject, e, ← t, q)
+pub kind-setting : (code : ℕ) → (code ≡ 0x02 → ⊥) → subjectOf 0x02 code ≡ codeSubject code
+unfolding subjectOf codeSubject
+kind-setting code n = rw (ne-eqb code 0x02 n)
 
 -- ---- bytes behind the first n of a room
 
@@ -162,3 +122,69 @@ module _ (kind : ℕ) (a : Asked) (n : ℕ) (room : List ℕ) (x : Subject) (is 
   pub field-unknown : x ≡ Unknown → (r : Written) → r ≡ record { number = 28; length = 0 } → record { answer = r; room = room } ≡ fieldWriting kind a n room
   unfolding fieldWriting acceptable
   field-unknown e r p = rw (← is, e, p)
+
+-- ---- the command writer: one field, appended to nothing, and a message made of it
+
+pub kind-back : (kind code : ℕ) (s : Subject) (f v : ℕ) → subjectOf kind code ≡ s → acceptable s f v ≡ true → kindFor s ≡ kind
+unfolding acceptable
+kind-back kind code Ping f v e a = sym (subject-ping kind code e .0)
+kind-back kind code (About s) f v e a = sym (subject-about kind code s e .0)
+kind-back kind code Unknown f v e a = differ (sym a)
+
+module _ (code f v kind : ℕ) (ks : subjectOf kind code ≡ codeSubject code) (seven : List ℕ) (l : length seven ≡ 7) where
+  abbrev s : Subject
+  s = codeSubject code
+
+  abbrev field : List ℕ
+  field = fieldFor s f v
+
+  abbrev appended : Writing
+  appended = fieldWriting kind (record { code = code; function = f; value = v }) 0 seven
+
+  module _ (w : Written) (after : List ℕ) (e : record { answer = w; room = after } ≡ appended) where
+    number-is : w .number ≡ appended .answer .number
+    number-is = ap (λ (x : Writing). x .answer .number) e
+
+    refused-number : acceptable s f v ≡ false → w .number ≡ 28
+    unfolding fieldWriting
+    refused-number a = number-is ∙ rw (ks, a)
+
+    done : acceptable s f v ≡ true → appended ≡ record { answer = record { number = 0; length = length field }; room = field ++ drop (length field) seven }
+    unfolding fieldWriting
+    done a =
+        let z : 0 + length field ≡ length field = omega arith in
+        rw (ks, a, z, le-ltb (length seven) (length field) (omega (arith, field-most s f v)))
+
+    -- What is appended where the number is 0.
+    module _ (z : w .number ≡ 0) where
+      right : acceptable s f v ≡ true
+      right = go (acceptable s f v) refl
+        where
+          go : (b : Bool) → acceptable s f v ≡ b → acceptable s f v ≡ true
+          go true a = a
+          go false a = absurd (omega (arith, refused-number a, z))
+
+      length-is : w .length ≡ length field
+      length-is = ap (λ (x : Writing). x .answer .length) (e ∙ done right)
+
+      pub field-fits : w .length ≤ length after
+      field-fits =
+          let r : after ≡ field ++ drop (length field) seven = ap (λ (x : Writing). x .room) (e ∙ done right) in
+          omega (arith, length-is, ap length r, length-append field (drop (length field) seven))
+
+      pub command-done : (p : List ℕ) → p ≡ take (w .length) after → (room : List ℕ) (x : Writing) → x ≡ plainWriting kind p room → x ≡ commandWriting code f v room
+      unfolding commandWriting commandMessage plainWriting
+      command-done p ps room x h =
+          let r : after ≡ field ++ drop (length field) seven = ap (λ (x : Writing). x .room) (e ∙ done right) in
+          let t : p ≡ field = ps ∙ ap (λ (n : ℕ). take n after) length-is ∙ ap (take (length field)) r ∙ take-at field (drop (length field) seven) (length field) refl in
+          let k : kindFor s ≡ kind = kind-back kind code s f v ks right in
+          h ∙ rw (t, le-ltb 255 (length field) (omega (arith, field-most s f v)), right, k)
+
+    pub command-refused : (w .number ≡ 0 → ⊥) → (r : Written) → r ≡ record { number = 28; length = 0 } → (room : List ℕ)
+        → record { answer = r; room = room } ≡ commandWriting code f v room
+    unfolding commandWriting
+    command-refused n r p room = go (acceptable s f v) refl
+      where
+        go : (b : Bool) → acceptable s f v ≡ b → record { answer = r; room = room } ≡ commandWriting code f v room
+        go false a = rw (a, p)
+        go true a = absurd (n (ap (λ (x : Writing). x .answer .number) (e ∙ done a)))

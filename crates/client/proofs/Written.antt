@@ -1,7 +1,7 @@
 -- Every message whose fields are all handled without error is one of what is asked for, but for what is not looked at.
 use Prim.Native.Nat.{ℕ, zero, suc, _+_, _%_, _<_}
 use native.Mathlib.Omega.{arith}
-use mathlib.Core.Path.{_≡_, refl, ap, sym, _∙_}
+use mathlib.Core.Path.{_≡_, refl, ap, sym, _∙_, subst}
 use mathlib.Core.Bool.{Bool, true, false, _&&_, _||_, not}
 use mathlib.Core.List.{List, [], _∷_, _++_}
 use lib.Dec.{eqb, leb}
@@ -12,9 +12,9 @@ use Rattle.word.specs.Word.{word, wordBytes}
 use Rattle.word.proofs.Numbers.{bytes-back}
 use Rattle.page.specs.declared.setting.Setting.{Setting}
 use Rattle.page.specs.declared.setting.Setting.the-variants.{Baud, Accelerometer, Gyroscope}
-use Rattle.page.specs.Settings.{codeOf, allowed, valueBytes, valueSize}
+use Rattle.page.specs.Settings.{settingOf, codeOf, allowed, valueBytes, valueSize}
 use Rattle.message.specs.Fields.{Field, fieldBytes, rowBytes, SizesRight}
-use Rattle.message.specs.Message.{typeOf, lengthOf, payloadOf}
+use Rattle.message.specs.Message.{messageOf, typeOf, lengthOf, payloadOf}
 use Rattle.message.proofs.FieldRows.{fields-fill}
 use Rattle.command.specs.declared.command.Subject.{Subject}
 use Rattle.command.specs.declared.command.Subject.the-variants.{Ping, Setting as About, Unknown}
@@ -22,10 +22,11 @@ use Rattle.command.specs.Command.{commandOf, valueFor, subjectOf}
 use Rattle.command.specs.Errors.{fieldError, isFunction}
 use Rattle.command.proofs.Accepts.{Accepted, accepted}
 use Rattle.stream.proofs.Bools.{differ, and-both}
-use Rattle.client.specs.Writer.{acceptable, Asked, askedField, askedRight}
-use Rattle.client.specs.Commands.{askedFields, allRight, lookedAt, allLookedAt, NoErrors, ObeyedIsWritten}
+use Rattle.client.specs.Writer.{codeSubject, acceptable, commandMessage, Asked, askedField, askedRight}
+use Rattle.client.specs.Commands.{askedFields, allRight, lookedAt, allLookedAt, NoErrors, ObeyedIsWritten, OneObeyedIsWritten}
 use Rattle.client.proofs.Tests.{value-length}
 use Rattle.client.proofs.Commands.{about-back, subject-ping, subject-about}
+use Rattle.client.proofs.Writings.{kind-back}
 
 -- ---- data of a known length
 
@@ -165,3 +166,32 @@ obeyed-is-written m fs b e free =
     let q : (i : ℕ) → getD (payloadOf m) i 0 < 256 = taken-byte (lengthOf m) (drop 4 m) (λ i. rw (getD-drop 4 m i 0) (b (4 + i))) in
     let r = fields-are (typeOf m) fs (f .1) (rw (f .0) q) free in
     record { asked = r .asked; right = r .right; written = r .written }
+
+-- ---- one field
+
+-- What is acceptable in a message of this type is what its code is about, and of this type.
+known : (kind code : ℕ) (s : Subject) (f v : ℕ) → subjectOf kind code ≡ s → acceptable s f v ≡ true → codeSubject code ≡ s
+unfolding codeSubject acceptable settingOf
+known kind code Ping f v e a = let k = subject-ping kind code e in rw (k .1)
+known kind code (About Baud) f v e a = let k = subject-about kind code Baud e in rw (k .1)
+known kind code (About Accelerometer) f v e a = let k = subject-about kind code Accelerometer e in rw (k .1)
+known kind code (About Gyroscope) f v e a = let k = subject-about kind code Gyroscope e in rw (k .1)
+known kind code Unknown f v e a = differ (sym a)
+
+pub one-obeyed-is-written : OneObeyedIsWritten
+unfolding commandMessage
+one-obeyed-is-written m f b e free =
+    let h = fields-fill (payloadOf m) (f ∷ []) e in
+    let q : (i : ℕ) → getD (payloadOf m) i 0 < 256 = taken-byte (lengthOf m) (drop 4 m) (λ i. rw (getD-drop 4 m i 0) (b (4 + i))) in
+    let p : (i : ℕ) → getD (rowBytes (f ∷ [])) i 0 < 256 = subst (λ (l : List ℕ). (i : ℕ) → getD l i 0 < 256) (sym (h .0)) q in
+    let one = field-is (typeOf m) f (h .1 .0) (λ i. front-byte (fieldBytes f) [] p (suc (suc i))) free (subjectOf (typeOf m) (f .code)) refl in
+    let a : Asked = one .asked in
+    let k = known (typeOf m) (a .code) (subjectOf (typeOf m) (a .code)) (a .function) (a .value) refl (one .right) in
+    let t = kind-back (typeOf m) (a .code) (subjectOf (typeOf m) (a .code)) (a .function) (a .value) refl (one .right) in
+    record {
+      code = a .code;
+      function = a .function;
+      value = a .value;
+      accepted = rw k (one .right);
+      written = rw (k, t) (ap (messageOf (typeOf m)) (one .written));
+    }

@@ -4,11 +4,11 @@ use mathlib.Core.Path.{_≡_}
 use mathlib.Core.Bool.{Bool, true, _&&_, cond}
 use mathlib.Core.List.{List, [], _∷_, _++_}
 use mathlib.Core.Option.{some}
-use Prim.Native.Nat.{ℕ, _<_, _≤_}
+use Prim.Native.Nat.{ℕ, zero, suc, _<_, _≤_}
 use lib.Dec.{eqb, leb}
 use lib.ListN.{length, take, getD}
 use Rattle.page.specs.declared.setting.Setting.{Setting}
-use Rattle.message.specs.Fields.{Field, rowBytes, fieldsOf}
+use Rattle.message.specs.Fields.{Field, fieldBytes, rowBytes, fieldsOf}
 use Rattle.message.specs.Message.{messageOf, typeOf, payloadOf}
 use Rattle.message.specs.Whole.{wholeNumber}
 use Rattle.message.specs.Write.{Writing}
@@ -37,29 +37,29 @@ askedOutcome access kind x a =
 -- One after the other, each on what those before it left.
 abbrev pub askedOutcomes : {P : Type 0} → Access P → ℕ → State P → List Asked → Outcome P
 askedOutcomes access kind x [] = idle x
-askedOutcomes access kind x (a ∷ as′) = thenOutcome (askedOutcome access kind x a) (askedOutcomes access kind (askedOutcome access kind x a .next) as′)
+askedOutcomes access kind x (a ∷ asks) = thenOutcome (askedOutcome access kind x a) (askedOutcomes access kind (askedOutcome access kind x a .next) asks)
 
 -- The fields of a command, and whether the board accepts each.
 abbrev pub askedFields : ℕ → List Asked → List ℕ
 askedFields kind [] = []
-askedFields kind (a ∷ as′) = askedField kind a ++ askedFields kind as′
+askedFields kind (a ∷ asks) = askedField kind a ++ askedFields kind asks
 
 abbrev pub allRight : ℕ → List Asked → Bool
 allRight kind [] = true
-allRight kind (a ∷ as′) = askedRight kind a && allRight kind as′
+allRight kind (a ∷ asks) = askedRight kind a && allRight kind asks
 
 -- ---- what is written is obeyed
 
 -- A message of 1 to 16 such fields is whole, and is handled without error with exactly their effects in order, whatever the settings
 -- and the page.
-pub record Obeyed (kind : ℕ) (as′ : List Asked) : Type 1 where
-  pub whole : wholeNumber (messageOf kind (askedFields kind as′)) ≡ 0
+pub record Obeyed (kind : ℕ) (asks : List Asked) : Type 1 where
+  pub whole : wholeNumber (messageOf kind (askedFields kind asks)) ≡ 0
   pub outcome : (P : Type 0) (access : Access P) (x : State P)
-      → messageOutcome access x (receivedOf true (messageOf kind (askedFields kind as′))) ≡ askedOutcomes access kind x as′
+      → messageOutcome access x (receivedOf true (messageOf kind (askedFields kind asks))) ≡ askedOutcomes access kind x asks
 
 -- Proof: Obedience `written-is-obeyed`.
 abbrev pub WrittenIsObeyed : Type 1
-WrittenIsObeyed = (kind : ℕ) (as′ : List Asked) → allRight kind as′ ≡ true → 1 ≤ length as′ → length as′ ≤ mostFields → Obeyed kind as′
+WrittenIsObeyed = (kind : ℕ) (asks : List Asked) → allRight kind asks ≡ true → 1 ≤ length asks → length asks ≤ mostFields → Obeyed kind asks
 
 -- The command writer writes such a message, of one field. Proof: Obedience `one-is-written`.
 pub record OneAsked (code function value : ℕ) : Type 0 where
@@ -70,18 +70,25 @@ pub record OneAsked (code function value : ℕ) : Type 0 where
 abbrev pub OneIsWritten : Type 0
 OneIsWritten = (code function value : ℕ) → acceptable (codeSubject code) function value ≡ true → OneAsked code function value
 
--- Fields appended one after the other from the front of a room are the payload of such a message.
+-- Fields appended one after the other behind the first n bytes of a room; a refusal ends it.
+abbrev pub unlessRefused : ℕ → Writing → Writing → Writing
+unlessRefused zero w next = next
+unlessRefused (suc n) w next = w
+
 abbrev pub appendAll : ℕ → List Asked → ℕ → List ℕ → Writing
 appendAll kind [] n room = record { answer = record { number = 0; length = n }; room = room }
-appendAll kind (a ∷ as′) n room = appendAll kind as′ (fieldWriting kind a n room .answer .length) (fieldWriting kind a n room .room)
+appendAll kind (a ∷ asks) n room =
+    let w : Writing = fieldWriting kind a n room in
+    unlessRefused (w .answer .number) w (appendAll kind asks (w .answer .length) (w .room))
 
--- Proof: Obedience `appended-are-fields`.
-pub record Appended (kind : ℕ) (as′ : List Asked) (room : List ℕ) : Type 0 where
-  pub size : appendAll kind as′ 0 room .answer .length ≡ length (askedFields kind as′)
-  pub payload : take (length (askedFields kind as′)) (appendAll kind as′ 0 room .room) ≡ askedFields kind as′
+-- From the front of a room they are the payload of such a message, and none is refused. Proof: Obedience `appended-are-fields`.
+pub record Appended (kind : ℕ) (asks : List Asked) (room : List ℕ) : Type 0 where
+  pub done : appendAll kind asks 0 room .answer .number ≡ 0
+  pub size : appendAll kind asks 0 room .answer .length ≡ length (askedFields kind asks)
+  pub payload : take (length (askedFields kind asks)) (appendAll kind asks 0 room .room) ≡ askedFields kind asks
 
 abbrev pub AppendedAreFields : Type 0
-AppendedAreFields = (kind : ℕ) (as′ : List Asked) (room : List ℕ) → allRight kind as′ ≡ true → length (askedFields kind as′) ≤ length room → Appended kind as′ room
+AppendedAreFields = (kind : ℕ) (asks : List Asked) (room : List ℕ) → allRight kind asks ≡ true → length (askedFields kind asks) ≤ length room → Appended kind asks room
 
 -- ---- what is obeyed is what is written
 
@@ -110,3 +117,16 @@ pub record IsCommand (m : List ℕ) (fs : List Field) : Type 0 where
 abbrev pub ObeyedIsWritten : Type 0
 ObeyedIsWritten =
     (m : List ℕ) (fs : List Field) → ((i : ℕ) → getD m i 0 < 256) → fieldsOf (payloadOf m) ≡ some fs → NoErrors (typeOf m) fs → IsCommand m fs
+
+-- Of one field: but for those bytes, it is what the command writer writes.
+pub record IsWritten (m : List ℕ) (f : Field) : Type 0 where
+  pub code : ℕ
+  pub function : ℕ
+  pub value : ℕ
+  pub accepted : acceptable (codeSubject code) function value ≡ true
+  pub written : messageOf (typeOf m) (fieldBytes (lookedAt (typeOf m) f)) ≡ commandMessage code function value
+
+-- Proof: Written `one-obeyed-is-written`.
+abbrev pub OneObeyedIsWritten : Type 0
+OneObeyedIsWritten =
+    (m : List ℕ) (f : Field) → ((i : ℕ) → getD m i 0 < 256) → fieldsOf (payloadOf m) ≡ some (f ∷ []) → fieldError (commandOf (typeOf m) f) ≡ 0 → IsWritten m f

@@ -1,4 +1,4 @@
--- Document 01, "Handling one message": the command writer.
+-- Document 01, "Handling one message": the command writer; and for request 02 one field more behind a payload.
 use mathlib.Core.Bool.{Bool, true, false, _&&_, _||_, not}
 use mathlib.Core.List.{List, [], _∷_}
 use Prim.Native.Nat.{ℕ, _+_}
@@ -37,7 +37,7 @@ abbrev pub fieldOn : Bool → ℕ → ℕ → List ℕ → List ℕ
 fieldOn true code function value = code ∷ (1 + length value) ∷ function ∷ value
 fieldOn false code function value = code ∷ 1 ∷ function ∷ []
 
--- The one field of a command; Ping is written without a function and a value.
+-- The field of a command; Ping is written without a function and a value.
 abbrev pub fieldFor : Subject → ℕ → ℕ → List ℕ
 fieldFor Ping function value = 0x02 ∷ 0x00 ∷ []
 fieldFor (About s) function value = fieldOn (eqb function 1) (codeOf s) function (valueBytes s value)

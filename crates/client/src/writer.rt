@@ -1,39 +1,48 @@
-// The command writer.
+// The command writer, and the writer of one field more.
 ghost use mathlib.Core.Path.{_≡_};
 ghost use mathlib.Core.Bool.{not};
 ghost use mathlib.Core.List.{[], _∷_};
-ghost use Prim.Native.Nat.{_%_};
+ghost use Prim.Native.Nat.{_%_, _≤_};
+ghost use lib.ListN.{length, take};
 ghost use Rattle.word.specs.Word.{wordBytes};
-ghost use Rattle.message.specs.Message.{messageOf};
-ghost use Rattle.message.specs.Write.{refuseWriting, writingOf, plainWriting};
-ghost use Rattle.client.specs.Writer.{acceptable, fieldFor, commandWriting, behindWriting, fieldWriting};
+ghost use Rattle.message.specs.Write.{refuseWriting};
+ghost use Rattle.command.specs.Command.{subjectOf};
+ghost use Rattle.client.specs.Writer.{codeSubject, acceptable, fieldFor, commandWriting, behindWriting, fieldWriting};
 use command::Subject;
 use command::subject_of;
 use message::Written;
 use message::write_bytes;
 use message::write_message;
-use page::Coded;
 use page::Setting;
 use page::allowed;
 use page::code_of;
-use page::setting_of;
 
 // Writes the command of this code and function to the front of `room`: function 1 with the value, the functions 2 to 5
 // without, Ping without both. What is not written is not looked at.
 pub fn write_command(code: u8, function: u8, value: u32, room: &mut [u8]) -> Written
     ensures { λ r. ⌜ record { answer = r; room = now (room .exit) } ≡ commandWriting code function value (now (room .entry)) ⌝ }
 {
-    if code == 0x02 {
-        let payload = [0x02, 0x00];
-        return write_message(0x01, &payload, room);
-    }
-    let Coded::Setting(setting) = setting_of(code) else {
+    let kind = kind_of(code);
+    let mut field = [0u8; 7];
+    let appended = append_field(kind, code, function, value, 0, &mut field);
+    if appended.number != 0 {
         return refused();
-    };
-    if accepts(setting, function, value) {
-        return write_setting(setting, function, value, room);
     }
-    refused()
+    write_message(kind, first_bytes(&field, appended.length), room)
+}
+
+fn first_bytes(s: &[u8], n: usize) -> &[u8]
+    requires { ⌜ n ≤ length (now s) ⌝ }
+    ensures { λ r. ⌜ now r ≡ take n (now (s .entry)) ⌝ }
+{
+    &s[0..n]
+}
+
+// The type of the command of this code: Ping's is 01, that of a setting 02.
+fn kind_of(code: u8) -> u8
+    ensures { λ r. ⌜ subjectOf r code ≡ codeSubject code ⌝ }
+{
+    if code == 0x02 { 0x01 } else { 0x02 }
 }
 
 // Writes one field of a command behind the first `length` bytes of `room`, a payload to be, and answers the payload's length with it.
@@ -80,46 +89,6 @@ fn accepts(setting: Setting, function: u8, value: u32) -> bool
         return false;
     }
     function <= 5
-}
-
-// Writes the command of a setting.
-fn write_setting(setting: Setting, function: u8, value: u32, room: &mut [u8]) -> Written
-    ensures { λ r. ⌜ record { answer = r; room = now (room .exit) } ≡ writingOf (messageOf 0x02 (fieldFor (Subject.Setting setting) function value)) (now (room .entry)) ⌝ }
-{
-    let code = code_of(setting);
-    if function != 1 {
-        let payload = [code, 1, function];
-        return write_message(0x02, &payload, room);
-    }
-    match setting {
-        Setting::Baud => write_word(code, value, room),
-        Setting::Accelerometer => write_byte(code, value, room),
-        Setting::Gyroscope => write_byte(code, value, room),
-    }
-}
-
-// Writes function 1 of a code with a value of four bytes.
-fn write_word(code: u8, value: u32, room: &mut [u8]) -> Written
-    ensures { λ r. ⌜ record { answer = r; room = now (room .exit) } ≡ plainWriting 0x02 (code ∷ 5 ∷ 1 ∷ wordBytes value) (now (room .entry)) ⌝ }
-{
-    let payload = [
-        code,
-        5,
-        1,
-        low(value / 16777216),
-        low(value / 65536),
-        low(value / 256),
-        low(value),
-    ];
-    write_message(0x02, &payload, room)
-}
-
-// Writes function 1 of a code with a value of one byte.
-fn write_byte(code: u8, value: u32, room: &mut [u8]) -> Written
-    ensures { λ r. ⌜ record { answer = r; room = now (room .exit) } ≡ plainWriting 0x02 (code ∷ 2 ∷ 1 ∷ value % 256 ∷ []) (now (room .entry)) ⌝ }
-{
-    let payload = [code, 2, 1, low(value)];
-    write_message(0x02, &payload, room)
 }
 
 // Writes a field of a setting behind the first `length` bytes of `room`, where the board accepts it.

@@ -1,11 +1,11 @@
 -- The answer to a command, case by case.
 use Prim.Native.Nat.{ℕ, zero, suc, _+_, _-_, _≤_, _<_}
 use native.Mathlib.Omega.{arith}
-use mathlib.Core.Path.{_≡_, refl, sym, _∙_, ap}
+use mathlib.Core.Path.{_≡_, refl, _∙_, ap}
 use mathlib.Core.Bool.{Bool, true, false, or-true, or-false}
 use mathlib.Core.List.{List, [], _++_, append-assoc, append-nil}
-use lib.ListN.{length, getD, take, drop, take-append-drop, List·getD-append}
-use lib.Seq.{length-take-le, take-at, drop-at, getD-drop}
+use lib.ListN.{length, getD, take, drop, take-append-drop}
+use lib.Seq.{length-take-le, take-at, drop-at}
 use lib.Dec.{ltb}
 use borrow.Author.Tests.{lt-ltb, le-ltb}
 use Rattle.page.specs.declared.setting.Setting.{Setting}
@@ -28,13 +28,12 @@ use Rattle.command.specs.declared.settings.Settings.{Settings}
 use Rattle.command.specs.declared.command.Command.{Command}
 use Rattle.command.specs.Command.{valueFor, subjectOf, commandsOf}
 use Rattle.command.specs.Errors.{fieldError, messageError}
-use Rattle.command.specs.Effects.{workingValue, withWorking, Fits, valueRow, functionEffect, fieldEffect, effectOn, effectOf}
-use Rattle.command.specs.Outcome.{Outcome, receivedOf, idle, thenOutcome, replyRows, fieldsIn, effectOutcome, rowOutcome, fieldOutcome, fieldsOutcome, messageOn, messageOutcome}
+use Rattle.command.specs.Effects.{workingValue, withWorking, Fits, valueField, functionEffect, fieldEffect, effectOn, effectOf}
+use Rattle.command.specs.Outcome.{Outcome, receivedOf, idle, thenOutcome, replyRow, fieldsIn, effectOutcome, rowOutcome, fieldOutcome, fieldsOutcome, messageOn, messageOutcome}
 use Rattle.command.specs.Place.{Placed, stateOf, placed}
 use Rattle.command.specs.Answer.{loadedFrom, savedOn, pageAccess, replyRoom, Answering, answerWith, answerOn, answering}
 use Rattle.command.proofs.Places.{put-length, put-behind, placed-then}
-use Rattle.command.proofs.Rows.{function-row, outcomes-most, outcomes-least}
-use Rattle.command.proofs.Tests.{fields-some}
+use Rattle.command.proofs.Rows.{function-row, outcomes-most}
 
 -- ---- the value of a command, and its row
 
@@ -98,7 +97,7 @@ module _ (p : Progress) (room page : List ℕ) where
 
   -- The field 80 is placed.
   pub placed-row : (q : Progress) (mid : List ℕ) (echo error : ℕ) → q ≡ record { end = p .end + 4; saved = p .saved; settings = p .settings }
-      → mid ≡ putAt (p .end) (replyRows echo error []) room
+      → mid ≡ putAt (p .end) (replyRow echo error []) room
       → record { done = q; room = mid; page = page } ≡ placed p (rowOutcome echo error (idle (stateOf p page))) room
   placed-row q mid echo error e m = rw (e, m, or-false (p .saved))
 
@@ -108,7 +107,7 @@ module _ (p : Progress) (room page : List ℕ) where
     obeyed = placed p (effectOutcome savedOn (functionEffect f (loadedFrom page) (p .settings) s x) (stateOf p page)) room
 
     pub obey-report : f ≡ 2 → (y : ℕ) → y ≡ workingValue (p .settings) s → (r : ℕ) (after : List ℕ)
-        → (r ≡ p .end + length (valueRow s y)) × (after ≡ putAt (p .end) (valueRow s y) room)
+        → (r ≡ p .end + length (valueField s y)) × (after ≡ putAt (p .end) (valueField s y) room)
         → record { done = record { end = r; saved = p .saved; settings = p .settings }; room = after; page = page } ≡ obeyed
     obey-report e y ys r after h = rw (e, h .0, h .1, ys, or-false (p .saved))
 
@@ -134,7 +133,7 @@ module _ (p : Progress) (room page : List ℕ) where
 
   -- Any field.
   module _ (c : Command) (error : ℕ) (es : error ≡ fieldError c) (q : Progress) (mid : List ℕ)
-      (e : q ≡ record { end = p .end + 4; saved = p .saved; settings = p .settings }) (m : mid ≡ putAt (p .end) (replyRows (c .code) error []) room) where
+      (e : q ≡ record { end = p .end + 4; saved = p .saved; settings = p .settings }) (m : mid ≡ putAt (p .end) (replyRow (c .code) error []) room) where
     pub field-refused : (port : ℕ) → (error ≡ 0 → ⊥) → record { done = q; room = mid; page = page } ≡ placed p (fieldOutcome (pageAccess port) (stateOf p page) c) room
     unfolding fieldOutcome effectOf
     field-refused port n = placed-row q mid (c .code) error e m ∙ rw (← es) (go error n)
@@ -146,7 +145,7 @@ module _ (p : Progress) (room page : List ℕ) where
 
     pub field-ready : p .end + 10 ≤ length room → q .end + 6 ≤ length mid
     field-ready h =
-        let l : length mid ≡ length room = ap length m ∙ put-length (p .end) (replyRows (c .code) error []) room (omega arith) in
+        let l : length mid ≡ length room = ap length m ∙ put-length (p .end) (replyRow (c .code) error []) room (omega arith) in
         let d : q .end ≡ p .end + 4 = ap (λ (p : Progress). p .end) e in
         omega arith
 
@@ -200,18 +199,18 @@ sealed-rows kind rows room few large =
 
 -- A message that is refused as a whole.
 module _ (kind echo error : ℕ) (w : Settings) (room : List ℕ) (large : replyRoom ≤ length room) (p : Progress) (mid : List ℕ)
-    (e : p ≡ record { end = 4 + 4; saved = false; settings = w }) (q : mid ≡ putAt 4 (replyRows echo error []) room) where
+    (e : p ≡ record { end = 4 + 4; saved = false; settings = w }) (q : mid ≡ putAt 4 (replyRow echo error []) room) where
   pub refused-ready : (4 ≤ p .end) × (p .end < 260) × (p .end + 2 ≤ length mid)
   refused-ready =
-      let l : length mid ≡ length room = ap length q ∙ put-length 4 (replyRows echo error []) room (omega arith) in
+      let l : length mid ≡ length room = ap length q ∙ put-length 4 (replyRow echo error []) room (omega arith) in
       let d : p .end ≡ 8 = ap (λ (p : Progress). p .end) e in
       (omega arith, omega arith, omega arith)
 
   pub refused-done : (a : Answer) → a ≡ record { saved = p .saved; settings = p .settings } → (after : List ℕ) → after ≡ sealing kind (p .end - 4) mid .room
-      → (a ≡ record { saved = false; settings = w }) × (after ≡ doneWriting (messageOf kind (replyRows echo error [])) room .room)
+      → (a ≡ record { saved = false; settings = w }) × (after ≡ doneWriting (messageOf kind (replyRow echo error [])) room .room)
   refused-done a at after left =
       let m : p .end - 4 ≡ 4 = ap (λ (p : Progress). p .end - 4) e in
-      (rw (at, e), left ∙ rw (m, q) (sealed-rows kind (replyRows echo error []) room (omega arith) large))
+      (rw (at, e), left ∙ rw (m, q) (sealed-rows kind (replyRow echo error []) room (omega arith) large))
 
 -- One whose fields fill its payload.
 module _ (port kind : ℕ) (w : Settings) (fs : List Field) (room page : List ℕ) (few : length fs ≤ 16) (large : replyRoom ≤ length room) where
@@ -262,7 +261,7 @@ module _ (port : ℕ) (m : List ℕ) (good : Bool) (w : Settings) (room page : L
     told done h = h ∙ ap (λ (k : ℕ). answerTo port good k payload w room page) ks ∙ ap (λ (l : List ℕ). answerTo port good (typeOf m) l w room page) ps
 
     pub answer-refused : (error ≡ 0 → ⊥) → (echo : ℕ) → echo ≡ getD payload 0 0 → (a : Answer) (after : List ℕ)
-        → (a ≡ record { saved = false; settings = w }) × (after ≡ doneWriting (messageOf kind (replyRows echo error [])) room .room)
+        → (a ≡ record { saved = false; settings = w }) × (after ≡ doneWriting (messageOf kind (replyRow echo error [])) room .room)
         → record { answer = a; room = after; page = page } ≡ answering port (receivedOf good m) w room page
     unfolding messageOutcome
     answer-refused n echo cs a after h =

@@ -1,24 +1,21 @@
 -- What request 02 left of the handling of one field.
-use Prim.Native.Nat.{ℕ, zero, suc, _+_, _≤_}
+use Prim.Native.Nat.{ℕ, _+_}
 use native.Mathlib.Omega.{arith}
 use mathlib.Core.Path.{_≡_, refl, sym, ap, _∙_}
 use mathlib.Core.Bool.{Bool, true, false, _||_, not, cond}
 use mathlib.Core.List.{List, [], _∷_, append-nil}
-use mathlib.Core.Option.{none, some}
+use mathlib.Core.Option.{some}
 use lib.Dec.{eqb}
-use lib.ListN.{length, getD, drop}
-use borrow.Author.Tests.{eq-eqb, ne-eqb, eqb-true}
+use lib.ListN.{length, getD}
+use borrow.Author.Tests.{eq-eqb, ne-eqb}
 use Rattle.stream.proofs.Bools.{differ}
 use Rattle.message.specs.Fields.{Field, fieldBytes, fieldsOf}
-use Rattle.message.specs.Whole.{refuse}
 use Rattle.message.proofs.FieldRows.{fields-fill, fields-back}
-use Rattle.command.specs.declared.command.Command.{Command}
-use Rattle.command.specs.declared.command.Subject.{Subject}
-use Rattle.command.specs.Command.{commandOf, commandsOf, subjectOf}
-use Rattle.command.specs.Errors.{isUnknown, fieldWrong, fieldError, isKind, messageError}
-use Rattle.command.specs.Effects.{fieldEffect, effectOn, effectOf}
-use Rattle.command.specs.Outcome.{Access, State, Outcome, Received, idle, rowOutcome, effectOutcome, thenOutcome, fieldOutcome, fieldsOutcome, fieldsIn, messageOn, messageOutcome}
-use Rattle.command.specs.Before.{oneField, oneCommand, errorBefore, outcomeBefore, Beside, OneAsBefore}
+use Rattle.command.specs.Command.{commandOf, subjectOf}
+use Rattle.command.specs.Errors.{isUnknown, fieldError, fieldsRefused, isKind, messageError}
+use Rattle.command.specs.Effects.{effectOf}
+use Rattle.command.specs.Outcome.{Access, State, Received, idle, rowOutcome, fieldOutcome, fieldsOutcome, messageOutcome}
+use Rattle.command.specs.Before.{errorBefore, outcomeBefore, OneAsBefore}
 use Rattle.command.proofs.Separate.{then-idle}
 
 module _ {P : Type 0} (access : Access P) (x : State P) where
@@ -102,13 +99,13 @@ module _ {P : Type 0} (access : Access P) (x : State P) where
 
   -- ---- a payload that fields do not fill
 
-  module _ (m : Received) (g : m .good ≡ true) (k : isKind (m .kind) ≡ true) (e : fieldsOf (m .payload) ≡ none) where
+  module _ (m : Received) (g : m .good ≡ true) (k : isKind (m .kind) ≡ true) (e : fieldsRefused (fieldsOf (m .payload)) ≡ true) where
     some-bytes-there : eqb (length (m .payload)) 0 ≡ false
     unfolding fieldsOf
     some-bytes-there = go (m .payload) e
       where
-        go : (l : List ℕ) → fieldsOf l ≡ none → eqb (length l) 0 ≡ false
-        go [] n = let z : _≡_ {A = ℕ} 0 1 = cc in absurd (omega arith)
+        go : (l : List ℕ) → fieldsRefused (fieldsOf l) ≡ true → eqb (length l) 0 ≡ false
+        go [] n = differ (sym n)
         go (b ∷ bs) n = ne-eqb (length (b ∷ bs)) 0 (λ z. omega arith)
 
     unfilled : messageOutcome access x m ≡ rowOutcome (getD (m .payload) 0 0) 4 (idle x)
@@ -116,16 +113,16 @@ module _ {P : Type 0} (access : Access P) (x : State P) where
     unfilled = rw (g, k, some-bytes-there, e)
 
     -- Its size is not what is there.
-    size-wrong : (l : List ℕ) → fieldsOf l ≡ none → eqb (length l) 1 ≡ false → eqb (getD l 1 0 + 2) (length l) ≡ false
+    size-wrong : (l : List ℕ) → fieldsRefused (fieldsOf l) ≡ true → eqb (length l) 1 ≡ false → eqb (getD l 1 0 + 2) (length l) ≡ false
     unfolding fieldsOf
-    size-wrong [] n o = let z : _≡_ {A = ℕ} 0 1 = cc in absurd (omega arith)
+    size-wrong [] n o = differ (sym n)
     size-wrong (b ∷ []) n o = differ o
-    size-wrong (b ∷ c ∷ bs) n o =
-        ne-eqb (c + 2) (length (b ∷ c ∷ bs))
-        (λ h. (let f : Field = record { code = b; size = c; content = bs } in
-        let a : fieldsOf (fieldBytes f) ≡ some (f ∷ []) = field-alone true 0 f (omega arith) in
-        let z : _≡_ {A = ℕ} 0 1 = cc in
-        omega arith))
+    size-wrong (b ∷ c ∷ bs) n o = ne-eqb (c + 2) (length (b ∷ c ∷ bs)) (λ h. one-field-there (record { code = b; size = c; content = bs }) (omega arith) n)
+      where
+        one-field-there : (f : Field) → f .size ≡ length (f .content) → fieldsRefused (fieldsOf (fieldBytes f)) ≡ true → ⊥
+        one-field-there f s r =
+            let z : false ≡ true = rw (field-alone true 0 f s) at r in
+            differ (sym z)
 
     unfilled-before : outcomeBefore access x m ≡ rowOutcome (getD (m .payload) 0 0) (cond (isUnknown (subjectOf (m .kind) (getD (m .payload) 0 0))) 3 4) (idle x)
     unfolding outcomeBefore errorBefore

@@ -24,12 +24,12 @@ use Rattle.command.specs.declared.settings.Settings.{Settings}
 use Rattle.command.specs.declared.command.Command.{Command}
 use Rattle.command.specs.Command.{commandsOf}
 use Rattle.command.specs.Errors.{messageError}
-use Rattle.command.specs.Effects.{workingValue, effectOf, settingsAllowed}
-use Rattle.command.specs.Outcome.{State, Outcome, Received, receivedOf, replyRows, isSave, fieldsIn, thenOutcome, pageAfter, fieldOutcome, fieldsOutcome, messageOn, messageOutcome}
+use Rattle.command.specs.Effects.{workingValue, Effect, effectOf, settingsAllowed}
+use Rattle.command.specs.Outcome.{State, Outcome, Received, receivedOf, replyRow, isSave, fieldsIn, thenOutcome, pageAfter, fieldOutcome, fieldsOutcome, messageOn, messageOutcome}
 use Rattle.command.specs.Answer.{bodyValue, loadedFrom, savedOn, pageAccess, replyRoom, Answering, answerWith, answerOn, answering}
-use Rattle.command.specs.Theorems.{LoadsStored, PageChanges, Saved, savesOn, ReplyWhole, SavedIn, KeptBy, AnswerKeeps, OwnBytes}
+use Rattle.command.specs.Theorems.{LoadsStored, SaveOf, PageChanges, FieldKeeps, Saved, savesOn, ReplyWhole, SavedIn, KeptBy, AnswerKeeps, OwnBytes}
 use Rattle.stream.proofs.Bools.{differ, and-both}
-use Rattle.command.proofs.Keeps.{value-allowed, keeps-allowed}
+use Rattle.command.proofs.Keeps.{value-allowed, keeps-allowed, saves-only, saves-then}
 
 -- ---- loading
 
@@ -89,15 +89,15 @@ pub record Goes (page : List ℕ) (o : Outcome (List ℕ)) : Type 0 where
 
 saved-as : (saves : Option Setting) (w : Settings) (page : List ℕ) → sound page ≡ true → settingsAllowed w ≡ true
     → (sound (pageAfter savedOn saves w page) ≡ true) × SavedIn (isSave saves) page (pageAfter savedOn saves w page)
-saved-as none w page h a = (h, record { saves = []; written = refl; some = λ e. differ (sym e); none = λ e. refl })
+saved-as none w page h a = (h, record { saves = []; written = refl; at-least-one = λ e. differ (sym e); no-save = λ e. refl })
 saved-as (some s) w page h a =
     let k = page-changes page s (workingValue w s) h (value-allowed w s a) in (
       k .sound-page,
       record {
         saves = record { setting = s; value = workingValue w s } ∷ [];
         written = k .saved-page;
-        some = λ e. omega arith;
-        none = λ e. differ e;
+        at-least-one = λ e. omega arith;
+        no-save = λ e. differ e;
       },
     )
 
@@ -111,8 +111,26 @@ field-goes port x c k =
       saved = s .1;
     }
 
+pub field-keeps : FieldKeeps
+unfolding fieldOutcome
+field-keeps port x c h a =
+    record {
+      saved = λ s so.
+          (let e : effect .saves ≡ some s = saves-then (loadedFrom (x .page)) (x .settings) c s so in
+          (rw e, rw e (page-changes (x .page) s (workingValue (x .settings) s) h (value-allowed (x .settings) s a) .saved-page)));
+      unsaved = λ n. go n (effect .saves) refl;
+    }
+  where
+    effect : Effect
+    effect = effectOf (loadedFrom (x .page)) (x .settings) c
+
+    go : ((s : Setting) → SaveOf c s → ⊥) → (saves : Option Setting) → effect .saves ≡ saves
+        → (isSave (effect .saves) ≡ false) × (pageAfter savedOn (effect .saves) (x .settings) (x .page) ≡ x .page)
+    go n none e = (rw e, rw e)
+    go n (some s) e = absurd (n s (saves-only (loadedFrom (x .page)) (x .settings) c s e))
+
 idle-goes : (x : State (List ℕ)) → Sound x → (rows : List ℕ) → Goes (x .page) (record { rows = rows; saved = false; next = x })
-idle-goes x k rows = record { stays = k; saved = record { saves = []; written = refl; some = λ e. differ (sym e); none = λ e. refl } }
+idle-goes x k rows = record { stays = k; saved = record { saves = []; written = refl; at-least-one = λ e. differ (sym e); no-save = λ e. refl } }
 
 saves-then-on : (page : List ℕ) (a b : List Saved) → savesOn (savesOn page a) b ≡ savesOn page (a ++ b)
 saves-then-on page [] b = refl
@@ -125,8 +143,8 @@ then-goes page a b g h =
       saved = record {
         saves = g .saved .saves ++ h .saved .saves;
         written = h .saved .written ∙ ap (λ (l : List ℕ). savesOn l (h .saved .saves)) (g .saved .written) ∙ saves-then-on page (g .saved .saves) (h .saved .saves);
-        some = λ e. rw length-append (either (a .saved) (b .saved) (g .saved .some) (h .saved .some) e);
-        none = λ e. neither (a .saved) (b .saved) (g .saved .none) (h .saved .none) e;
+        at-least-one = λ e. rw length-append (either (a .saved) (b .saved) (g .saved .at-least-one) (h .saved .at-least-one) e);
+        no-save = λ e. neither (a .saved) (b .saved) (g .saved .no-save) (h .saved .no-save) e;
       };
     }
   where
@@ -153,7 +171,7 @@ message-goes port x m k = go (messageError (m .good) (m .kind) (m .payload))
   where
     go : (n : ℕ) → Goes (x .page) (messageOn (pageAccess port) n x (m .kind) (m .payload))
     go zero = fields-go port x (commandsOf (m .kind) (fieldsIn (fieldsOf (m .payload)))) k
-    go (suc n) = idle-goes x k (replyRows (getD (m .payload) 0 0) (suc n) [])
+    go (suc n) = idle-goes x k (replyRow (getD (m .payload) 0 0) (suc n) [])
 
 -- ---- an answer
 
@@ -173,7 +191,7 @@ answer-keeps port m w room page h a = go (ltb (length room) replyRoom)
     x = record { settings = w; page = page }
 
     go : (b : Bool) → KeptBy page (answerOn b (m .kind) (messageOutcome (pageAccess port) (record { settings = w; page = page }) m) w room page)
-    go true = record { settings-allowed = a; page-sound = h; saved = record { saves = []; written = refl; some = λ e. differ (sym e); none = λ e. refl } }
+    go true = record { settings-allowed = a; page-sound = h; saved = record { saves = []; written = refl; at-least-one = λ e. differ (sym e); no-save = λ e. refl } }
     go false =
         let g = message-goes port (record { settings = w; page = page }) m (record { settings = a; page = h }) in
         record { settings-allowed = g .stays .settings; page-sound = g .stays .page; saved = g .saved }

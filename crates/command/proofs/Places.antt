@@ -13,7 +13,7 @@ use Rattle.page.specs.declared.setting.Setting.the-variants.{Baud, Acceleromete
 use Rattle.page.specs.Settings.{codeOf}
 use Rattle.message.specs.Write.{putAt}
 use Rattle.command.specs.declared.place.Progress.{Progress}
-use Rattle.command.specs.Effects.{valueRow}
+use Rattle.command.specs.Effects.{valueField}
 use Rattle.command.specs.Outcome.{Outcome, idle, thenOutcome}
 use Rattle.command.specs.Place.{stateOf, placed}
 
@@ -33,23 +33,23 @@ module _ (room : List ℕ) (at : ℕ) where
 
 -- A setting's value, of four bytes or of one: where it ends, and the room.
 module _ (s : Setting) (x at : ℕ) where
-  pub end-word : (r : ℕ) → s ≡ Baud → r ≡ at + 6 → r ≡ at + length (valueRow s x)
+  pub end-word : (r : ℕ) → s ≡ Baud → r ≡ at + 6 → r ≡ at + length (valueField s x)
   end-word r e h = rw e h
 
-  pub end-accelerometer : (r : ℕ) → s ≡ Accelerometer → r ≡ at + 3 → r ≡ at + length (valueRow s x)
+  pub end-accelerometer : (r : ℕ) → s ≡ Accelerometer → r ≡ at + 3 → r ≡ at + length (valueField s x)
   end-accelerometer r e h = rw e h
 
-  pub end-gyroscope : (r : ℕ) → s ≡ Gyroscope → r ≡ at + 3 → r ≡ at + length (valueRow s x)
+  pub end-gyroscope : (r : ℕ) → s ≡ Gyroscope → r ≡ at + 3 → r ≡ at + length (valueField s x)
   end-gyroscope r e h = rw e h
 
   module _ (code : ℕ) (room after : List ℕ) (cs : code ≡ codeOf s) where
-    pub value-word : s ≡ Baud → after ≡ putAt at (code ∷ 4 ∷ wordBytes x) room → after ≡ putAt at (valueRow s x) room
+    pub value-word : s ≡ Baud → after ≡ putAt at (code ∷ 4 ∷ wordBytes x) room → after ≡ putAt at (valueField s x) room
     value-word e h = h ∙ rw (cs, e)
 
-    pub value-accelerometer : s ≡ Accelerometer → after ≡ putAt at (code ∷ 1 ∷ x % 256 ∷ []) room → after ≡ putAt at (valueRow s x) room
+    pub value-accelerometer : s ≡ Accelerometer → after ≡ putAt at (code ∷ 1 ∷ x % 256 ∷ []) room → after ≡ putAt at (valueField s x) room
     value-accelerometer e h = h ∙ rw (cs, e)
 
-    pub value-gyroscope : s ≡ Gyroscope → after ≡ putAt at (code ∷ 1 ∷ x % 256 ∷ []) room → after ≡ putAt at (valueRow s x) room
+    pub value-gyroscope : s ≡ Gyroscope → after ≡ putAt at (code ∷ 1 ∷ x % 256 ∷ []) room → after ≡ putAt at (valueField s x) room
     value-gyroscope e h = h ∙ rw (cs, e)
 
 -- ---- bytes behind bytes

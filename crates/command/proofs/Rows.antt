@@ -12,15 +12,15 @@ use Rattle.command.specs.declared.command.Subject.{Subject}
 use Rattle.command.specs.declared.command.Subject.the-variants.{Ping, Setting as About, Unknown}
 use Rattle.command.specs.Command.{commandOf, commandsOf, valueFor, subjectOf}
 use Rattle.command.specs.Errors.{fieldError}
-use Rattle.command.specs.Effects.{workingValue, valueRow, functionEffect, fieldEffect, effectOn, effectOf}
+use Rattle.command.specs.Effects.{workingValue, valueField, functionEffect, fieldEffect, effectOn, effectOf}
 use Rattle.command.specs.Outcome.{Access, State, fieldOutcome, fieldsOutcome}
 
-row-most : (s : Setting) (x : ℕ) → length (valueRow s x) ≤ 6
+row-most : (s : Setting) (x : ℕ) → length (valueField s x) ≤ 6
 row-most Baud x = omega arith
 row-most Accelerometer x = omega arith
 row-most Gyroscope x = omega arith
 
-pub function-row : (f : ℕ) (loaded : Setting → ℕ) (w : Settings) (s : Setting) (x : ℕ) → length (functionEffect f loaded w s x .row) ≤ 6
+pub function-row : (f : ℕ) (loaded : Setting → ℕ) (w : Settings) (s : Setting) (x : ℕ) → length (functionEffect f loaded w s x .report) ≤ 6
 function-row zero loaded w s x = omega arith
 function-row (suc zero) loaded w s x = omega arith
 function-row (suc (suc zero)) loaded w s x = row-most s (workingValue w s)
@@ -28,16 +28,16 @@ function-row (suc (suc (suc zero))) loaded w s x = omega arith
 function-row (suc (suc (suc (suc zero)))) loaded w s x = omega arith
 function-row (suc (suc (suc (suc (suc f))))) loaded w s x = omega arith
 
-field-row : (subject : Subject) (loaded : Setting → ℕ) (w : Settings) (c : Command) → length (fieldEffect subject loaded w c .row) ≤ 6
+field-row : (subject : Subject) (loaded : Setting → ℕ) (w : Settings) (c : Command) → length (fieldEffect subject loaded w c .report) ≤ 6
 field-row Ping loaded w c = omega arith
 field-row (About s) loaded w c = function-row (c .function) loaded w s (valueFor s c)
 field-row Unknown loaded w c = omega arith
 
-pub effect-row : (loaded : Setting → ℕ) (w : Settings) (c : Command) → length (effectOf loaded w c .row) ≤ 6
+pub effect-row : (loaded : Setting → ℕ) (w : Settings) (c : Command) → length (effectOf loaded w c .report) ≤ 6
 unfolding effectOf
 effect-row loaded w c = go (fieldError c)
   where
-    go : (n : ℕ) → length (effectOn n (fieldEffect (subjectOf (c .kind) (c .code)) loaded w c) w .row) ≤ 6
+    go : (n : ℕ) → length (effectOn n (fieldEffect (subjectOf (c .kind) (c .code)) loaded w c) w .report) ≤ 6
     go zero = field-row (subjectOf (c .kind) (c .code)) loaded w c
     go (suc n) = omega arith
 

@@ -1,9 +1,9 @@
--- Document 01's handling before request 02, when a message had one field, and what the request left of it. Nothing else speaks of
--- these definitions.
+-- Document 01's handling before request 02, when a message had one field, and what the request left of it. No other file uses these
+-- definitions.
 use mathlib.Core.Path.{_≡_}
-use mathlib.Core.Bool.{Bool, true, _||_, not, cond}
+use mathlib.Core.Bool.{true, _||_, not, cond}
 use mathlib.Core.List.{List, [], _∷_}
-use mathlib.Core.Option.{none, some}
+use mathlib.Core.Option.{some}
 use Prim.Native.Nat.{ℕ, _+_}
 use lib.Dec.{eqb}
 use lib.ListN.{length, getD, drop}
@@ -11,7 +11,7 @@ use Rattle.message.specs.Fields.{Field, fieldsOf}
 use Rattle.message.specs.Whole.{refuse}
 use Rattle.command.specs.declared.command.Command.{Command}
 use Rattle.command.specs.Command.{commandOf, subjectOf}
-use Rattle.command.specs.Errors.{isUnknown, fieldWrong, isKind}
+use Rattle.command.specs.Errors.{isUnknown, fieldWrong, fieldsRefused, isKind}
 use Rattle.command.specs.Effects.{fieldEffect, effectOn}
 use Rattle.command.specs.Outcome.{Access, State, Outcome, Received, idle, rowOutcome, effectOutcome, messageOutcome}
 
@@ -40,17 +40,18 @@ outcomeBefore access x m =
     x)
 
 -- What a message is handled to, now and before.
-pub record Beside {P : Type 0} (access : Access P) (x : State P) (m : Received) : Type 0 where
+pub record NowAndBefore {P : Type 0} (access : Access P) (x : State P) (m : Received) : Type 0 where
   -- One field, no field, wrong sums, another type: as before.
   pub one-field : (f : Field) → fieldsOf (m .payload) ≡ some (f ∷ []) → messageOutcome access x m ≡ outcomeBefore access x m
   pub no-field : m .payload ≡ [] → messageOutcome access x m ≡ outcomeBefore access x m
   pub refused : not (m .good) || not (isKind (m .kind)) ≡ true → messageOutcome access x m ≡ outcomeBefore access x m
-  -- A payload that fields do not fill, L = 1 among them: 4 now. Before, it was 3 where its first byte is an unknown code, else 4.
-  pub unfilled : m .good ≡ true → isKind (m .kind) ≡ true → fieldsOf (m .payload) ≡ none
+  -- A payload that fields do not fill, L = 1 among them, or more than 16: 4 now. Before, it was 3 where its first byte is an unknown
+  -- code, else 4.
+  pub unfilled : m .good ≡ true → isKind (m .kind) ≡ true → fieldsRefused (fieldsOf (m .payload)) ≡ true
       → messageOutcome access x m ≡ rowOutcome (getD (m .payload) 0 0) 4 (idle x)
-  pub unfilled-before : m .good ≡ true → isKind (m .kind) ≡ true → fieldsOf (m .payload) ≡ none
+  pub unfilled-before : m .good ≡ true → isKind (m .kind) ≡ true → fieldsRefused (fieldsOf (m .payload)) ≡ true
       → outcomeBefore access x m ≡ rowOutcome (getD (m .payload) 0 0) (cond (isUnknown (subjectOf (m .kind) (getD (m .payload) 0 0))) 3 4) (idle x)
 
 -- Proof: Before `one-as-before`.
 abbrev pub OneAsBefore : Type 1
-OneAsBefore = (P : Type 0) (access : Access P) (x : State P) (m : Received) → Beside access x m
+OneAsBefore = (P : Type 0) (access : Access P) (x : State P) (m : Received) → NowAndBefore access x m

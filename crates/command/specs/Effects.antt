@@ -37,19 +37,19 @@ settingsAllowed w = allowed Baud (w .baud) && allowed Accelerometer (w .accelero
 
 -- ---- one field
 
--- What a field leaves: the settings, the setting whose working value is to be saved, and the row that it adds to the reply.
+-- What a field leaves: the settings, the setting whose working value is to be saved, and the field that it adds to its row of the reply.
 pub record Effect : Type 0 where
   pub settings : Settings
   pub saves : Option Setting
-  pub row : List ℕ
+  pub report : List ℕ
 
 -- Leaves these settings, and neither saves nor reports.
 abbrev pub leaving : Settings → Effect
-leaving w = record { settings = w; saves = none; row = [] }
+leaving w = record { settings = w; saves = none; report = [] }
 
 -- code, value size, working value
-abbrev pub valueRow : Setting → ℕ → List ℕ
-valueRow s x = codeOf s ∷ valueSize s ∷ valueBytes s x
+abbrev pub valueField : Setting → ℕ → List ℕ
+valueField s x = codeOf s ∷ valueSize s ∷ valueBytes s x
 
 -- The effect of a function number on a setting, where x is the value sent. `loaded s` is the page's value of s, from the
 -- factory page if it has no entry. 1 sets the working value, 2 reads it, 3 saves it, 4 loads the page's value, 5 the factory
@@ -57,8 +57,8 @@ valueRow s x = codeOf s ∷ valueSize s ∷ valueBytes s x
 abbrev pub functionEffect : ℕ → (Setting → ℕ) → Settings → Setting → ℕ → Effect
 functionEffect zero loaded w s x = leaving w
 functionEffect (suc zero) loaded w s x = leaving (withWorking w s x)
-functionEffect (suc (suc zero)) loaded w s x = record { settings = w; saves = none; row = valueRow s (workingValue w s) }
-functionEffect (suc (suc (suc zero))) loaded w s x = record { settings = w; saves = some s; row = [] }
+functionEffect (suc (suc zero)) loaded w s x = record { settings = w; saves = none; report = valueField s (workingValue w s) }
+functionEffect (suc (suc (suc zero))) loaded w s x = record { settings = w; saves = some s; report = [] }
 functionEffect (suc (suc (suc (suc zero)))) loaded w s x = leaving (withWorking w s (loaded s))
 functionEffect (suc (suc (suc (suc (suc f))))) loaded w s x = leaving (withWorking w s (factoryValue s))
 

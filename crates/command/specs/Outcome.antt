@@ -51,8 +51,8 @@ abbrev pub replyOf : {P : Type 0} → ℕ → Outcome P → List ℕ
 replyOf kind o = messageOf kind (o .rows)
 
 -- A row of the reply: one field 80 with size 2, echo and error; an accepted function 2 adds a second field.
-abbrev pub replyRows : ℕ → ℕ → List ℕ → List ℕ
-replyRows echo error row = 0x80 ∷ 0x02 ∷ echo ∷ error ∷ row
+abbrev pub replyRow : ℕ → ℕ → List ℕ → List ℕ
+replyRow echo error row = 0x80 ∷ 0x02 ∷ echo ∷ error ∷ row
 
 module _ {P : Type 0} where
   -- Nothing is done.
@@ -61,7 +61,7 @@ module _ {P : Type 0} where
 
   -- The row with echo and error in front.
   abbrev pub rowOutcome : ℕ → ℕ → Outcome P → Outcome P
-  rowOutcome echo error o = record { rows = replyRows echo error (o .rows); saved = o .saved; next = o .next }
+  rowOutcome echo error o = record { rows = replyRow echo error (o .rows); saved = o .saved; next = o .next }
 
   -- One after the other.
   abbrev pub thenOutcome : Outcome P → Outcome P → Outcome P
@@ -84,7 +84,7 @@ module _ {P : Type 0} (save : P → Setting → ℕ → P) where
   abbrev pub effectOutcome : Effect → State P → Outcome P
   effectOutcome e x =
       record {
-        rows = e .row;
+        rows = e .report;
         saved = isSave (e .saves);
         next = record { settings = e .settings; page = pageAfter (e .saves) (x .settings) (x .page) };
       }

@@ -1,8 +1,8 @@
 -- What is proved of handling, beyond the contracts of the code. The proofs stand in proofs/.
 use mathlib.Core.Path.{_≡_}
-use mathlib.Core.Bool.{Bool, true, false}
+use mathlib.Core.Bool.{Bool, true, false, _||_}
 use mathlib.Core.List.{List, [], _∷_, _++_}
-use mathlib.Core.Option.{none, some}
+use mathlib.Core.Option.{some}
 use Prim.Native.Nat.{ℕ, zero, suc, _+_, _≤_}
 use lib.ListN.{length, drop}
 use Rattle.page.specs.declared.setting.Setting.{Setting}
@@ -18,16 +18,20 @@ use Rattle.command.specs.declared.command.Command.{Command}
 use Rattle.command.specs.declared.command.Subject.the-variants.{Setting as About}
 use Rattle.command.specs.Command.{subjectOf}
 use Rattle.command.specs.Errors.{fieldError, messageError}
-use Rattle.command.specs.Effects.{effectOf, settingsAllowed}
-use Rattle.command.specs.Outcome.{Access, State, Outcome, Received, receivedOf, replyOf, idle, thenOutcome, fieldOutcome, messageOutcome}
+use Rattle.command.specs.Effects.{workingValue, effectOf, settingsAllowed}
+use Rattle.command.specs.Outcome.{Access, State, Outcome, Received, receivedOf, replyOf, fieldOutcome, messageOutcome}
 use Rattle.command.specs.Answer.{loadedFrom, savedOn, pageAccess, replyRoom, Answering, answering}
 
 -- ---- several fields in one message
 
--- Messages handled one after the other, each on what those before it left.
+-- Messages handled one after the other, each on what those before it left: the fields of their replies in that order, a mark where
+-- one of them marks a save, and what the last one leaves.
 abbrev pub inTurn : {P : Type 0} → Access P → State P → List Received → Outcome P
-inTurn access x [] = idle x
-inTurn access x (m ∷ ms) = thenOutcome (messageOutcome access x m) (inTurn access (messageOutcome access x m .next) ms)
+inTurn access x [] = record { rows = []; saved = false; next = x }
+inTurn {P = P} access x (m ∷ ms) =
+    let o : Outcome P = messageOutcome access x m in
+    let rest : Outcome P = inTurn access (o .next) ms in
+    record { rows = o .rows ++ rest .rows; saved = o .saved || rest .saved; next = rest .next }
 
 -- Separate messages of the same type, one for each field in order.
 abbrev pub separate : ℕ → List Field → List Received
@@ -35,27 +39,27 @@ separate kind [] = []
 separate kind (f ∷ fs) = receivedOf true (messageOf kind (fieldBytes f)) ∷ separate kind fs
 
 -- A message of several fields leaves the settings and the page that separate messages would leave; its reply carries the
--- separate replies' fields in that order; a save is marked where one of them marks it.
+-- separate replies' fields in that order; a save is marked where one of them marks it. Proof: Separate `as-separate`.
 abbrev pub AsSeparate : Type 1
 AsSeparate =
     (P : Type 0) (access : Access P) (x : State P) (m : List ℕ) (fs : List Field) → messageError true (typeOf m) (payloadOf m) ≡ 0
     → fieldsOf (payloadOf m) ≡ some fs → messageOutcome access x (receivedOf true m) ≡ inTurn access x (separate (typeOf m) fs)
 
--- Sixteen reports of the baud rate.
 abbrev pub times : ℕ → List ℕ → List ℕ
 times zero bs = []
 times (suc n) bs = bs ++ times n bs
 
+-- Sixteen reports of the baud rate.
 abbrev pub sixteenReports : Received
 sixteenReports = record { good = true; kind = 0x02; payload = times 16 (0x01 ∷ 0x01 ∷ 0x02 ∷ []) }
 
--- The longest reply is 166 bytes: none is longer, and one is as long.
+-- The longest reply is 166 bytes: none is longer, and one is as long. Proof: Separate `longest-reply`.
 pub record LongestReply : Type 1 where
   pub most : (P : Type 0) (access : Access P) (x : State P) (m : Received) → length (replyOf (m .kind) (messageOutcome access x m)) ≤ replyRoom
   pub reached : (P : Type 0) (access : Access P) (x : State P) → length (replyOf 0x02 (messageOutcome access x sixteenReports)) ≡ replyRoom
 
 -- Two keepings of the page's values give the same replies and save marks, and stay related, for every message, where they do
--- for every field.
+-- for every field. Proof: Separate `fields-alike`.
 pub record Alike {P Q : Type 0} (R : State P → State Q → Type 0) (a : Outcome P) (b : Outcome Q) : Type 0 where
   pub rows : a .rows ≡ b .rows
   pub saved : a .saved ≡ b .saved
@@ -69,7 +73,7 @@ FieldsAlike =
 
 -- ---- one field
 
--- It keeps the working values allowed, whatever the command, if what is loaded is allowed.
+-- It keeps the working values allowed, whatever the command, if what is loaded is allowed. Proof: Keeps `keeps-allowed`.
 abbrev pub KeepsAllowed : Type 0
 KeepsAllowed =
     (loaded : Setting → ℕ) (w : Settings) (c : Command) → ((s : Setting) → allowed s (loaded s) ≡ true)
@@ -82,6 +86,7 @@ pub record SaveOf (c : Command) (s : Setting) : Type 0 where
   pub about : subjectOf (c .kind) (c .code) ≡ About s
   pub function : c .function ≡ 3
 
+-- Proofs: Keeps `saves-only`, `saves-then`.
 abbrev pub SavesOnly : Type 0
 SavesOnly = (loaded : Setting → ℕ) (w : Settings) (c : Command) (s : Setting) → effectOf loaded w c .saves ≡ some s → SaveOf c s
 
@@ -95,6 +100,7 @@ pub record LoadedValue (page : List ℕ) (s : Setting) : Type 0 where
   pub value : loadedFrom page s ≡ valueOr (storedIn (valuesIn page) s) (factoryValue s)
   pub value-allowed : allowed s (loadedFrom page s) ≡ true
 
+-- Proof: Pages `loaded-stored`.
 abbrev pub LoadsStored : Type 0
 LoadsStored = (page : List ℕ) (s : Setting) → sound page ≡ true → LoadedValue page s
 
@@ -103,8 +109,20 @@ pub record PageKept (page : List ℕ) (s : Setting) (x : ℕ) : Type 0 where
   pub saved-page : savedOn page s x ≡ savedPage page s x
   pub sound-page : sound (savedOn page s x) ≡ true
 
+-- Proof: Pages `page-changes`.
 abbrev pub PageChanges : Type 0
 PageChanges = (page : List ℕ) (s : Setting) (x : ℕ) → sound page ≡ true → allowed s x ≡ true → PageKept page s x
+
+-- One field on a sound page with allowed settings: an accepted save is marked and puts the working value in, and nothing else is
+-- marked or changes the page.
+pub record FieldKept (port : ℕ) (x : State (List ℕ)) (c : Command) : Type 0 where
+  pub saved : (s : Setting) → SaveOf c s
+      → (fieldOutcome (pageAccess port) x c .saved ≡ true) × (fieldOutcome (pageAccess port) x c .next .page ≡ savedPage (x .page) s (workingValue (x .settings) s))
+  pub unsaved : ((s : Setting) → SaveOf c s → ⊥) → (fieldOutcome (pageAccess port) x c .saved ≡ false) × (fieldOutcome (pageAccess port) x c .next .page ≡ x .page)
+
+-- Proof: Pages `field-keeps`.
+abbrev pub FieldKeeps : Type 0
+FieldKeeps = (port : ℕ) (x : State (List ℕ)) (c : Command) → sound (x .page) ≡ true → settingsAllowed (x .settings) ≡ true → FieldKept port x c
 
 -- Values put in one after the other.
 pub record Saved : Type 0 where
@@ -131,8 +149,8 @@ ReplyWhole =
 pub record SavedIn (saved : Bool) (page after : List ℕ) : Type 0 where
   pub saves : List Saved
   pub written : after ≡ savesOn page saves
-  pub some : saved ≡ true → 1 ≤ length saves
-  pub none : saved ≡ false → saves ≡ []
+  pub at-least-one : saved ≡ true → 1 ≤ length saves
+  pub no-save : saved ≡ false → saves ≡ []
 
 -- Answering a message on a sound page with allowed settings keeps both so. The page changes where a save is marked, to the
 -- page with the saved values put in, and nowhere else. Proof: Pages `answer-keeps`.

@@ -11,7 +11,7 @@ ghost use Rattle.command.specs.Answer.{loadedFrom, savedOn, pageAccess, 
 ghost use Rattle.command.specs.Command.{valueFor, commandsOf};
 ghost use Rattle.command.specs.Effects.{Fits, functionEffect};
 ghost use Rattle.command.specs.Errors.{fieldsRefused};
-ghost use Rattle.command.specs.Outcome.{receivedOf, replyRows, effectOutcome, fieldOutcome, fieldsOutcome, fieldsIn};
+ghost use Rattle.command.specs.Outcome.{receivedOf, replyRow, effectOutcome, fieldOutcome, fieldsOutcome, fieldsIn};
 ghost use Rattle.command.specs.Place.{stateOf, placed};
 use crate::command::Command;
 use crate::command::Subject;
@@ -94,7 +94,8 @@ fn obey(c: Command, setting: Setting, p: Progress, room: &mut [u8], page: &mut [
     }
 }
 
-// Answers one field: puts its rows behind those before it and, where a save is accepted, writes the page.
+// Answers one field of a message that came on `port`: puts its row behind those before it and, where a save is accepted, writes the
+// page. No rule tells the ports apart yet.
 fn answer_field(port: u8, c: Command, p: Progress, room: &mut [u8], page: &mut [u8]) -> Progress
     requires { ⌜ p .end + 10 ≤ length (now room) ⌝ }
     ensures { λ r. ⌜ record { done = r; room = now (room .exit); page = now (page .exit) } ≡ placed p (fieldOutcome (pageAccess port) (stateOf p (now (page .entry))) c) (now (room .entry)) ⌝ }
@@ -173,7 +174,7 @@ fn sealed(kind: u8, p: Progress, room: &mut [u8]) -> Answer
 // Answers a message that is refused as a whole: one row, and nothing changes.
 fn answer_refused(kind: u8, echo: u8, error: u8, w: Settings, room: &mut [u8]) -> Answer
     requires { ⌜ replyRoom ≤ length (now room) ⌝ }
-    ensures { λ r. ⌜ (r ≡ record { saved = false; settings = w }) × (now (room .exit) ≡ doneWriting (messageOf kind (replyRows echo error [])) (now (room .entry)) .room) ⌝ }
+    ensures { λ r. ⌜ (r ≡ record { saved = false; settings = w }) × (now (room .exit) ≡ doneWriting (messageOf kind (replyRow echo error [])) (now (room .entry)) .room) ⌝ }
 {
     let start = Progress {
         end: 4,

@@ -1,4 +1,4 @@
-// A command: one field of a message, as handling sees it.
+// What handling sees of one field of a command.
 ghost use mathlib.Core.Path.{_≡_};
 ghost use mathlib.Core.List.{_++_};
 ghost use Prim.Native.Nat.{_<_, _+_};

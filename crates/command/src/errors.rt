@@ -1,4 +1,4 @@
-// The errors that need no look at a payload: of a message by its sums and type, and of a field.
+// The error of one field, first that applies; and the types that carry fields.
 ghost use mathlib.Core.Path.{_≡_};
 ghost use mathlib.Core.Bool.{_&&_, _||_, not};
 ghost use lib.Dec.{eqb};
@@ -8,6 +8,7 @@ ghost use Rattle.command.specs.Errors.{isUnknown, fieldWrong, isKind, fi
 ghost use Rattle.command.specs.declared.command.Subject.the-variants.{Setting as About};
 use crate::command::Command;
 use crate::command::Subject;
+use crate::command::count_of;
 use crate::command::subject_of;
 use crate::settings::wide;
 use page::Setting;
@@ -21,12 +22,6 @@ pub(crate) fn value_for(setting: Setting, c: Command) -> u32
         Setting::Accelerometer => wide(c.first),
         Setting::Gyroscope => wide(c.first),
     }
-}
-
-fn sized(size: u8) -> usize
-    ensures { λ r. ⌜ r ≡ size ⌝ }
-{
-    size as usize
 }
 
 fn size_right(full: usize, size: usize, function: u8) -> bool
@@ -46,7 +41,7 @@ fn setting_wrong(setting: Setting, c: Command) -> bool
     ensures { λ r. ⌜ r ≡ fieldWrong (About setting) c ⌝ }
 {
     let function = c.function;
-    if !size_right(1 + page::value_size(setting), sized(c.size), function) {
+    if !size_right(1 + page::value_size(setting), count_of(c.size), function) {
         return true;
     }
     if function < 1 {

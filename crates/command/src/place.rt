@@ -5,8 +5,8 @@ ghost use Prim.Native.Nat.{_%_, _+_, _≤_};
 ghost use lib.ListN.{length};
 ghost use Rattle.word.specs.Word.{wordBytes};
 ghost use Rattle.message.specs.Write.{putAt};
-ghost use Rattle.command.specs.Effects.{valueRow};
-ghost use Rattle.command.specs.Outcome.{replyRows};
+ghost use Rattle.command.specs.Effects.{valueField};
+ghost use Rattle.command.specs.Outcome.{replyRow};
 use crate::settings::Settings;
 use page::Setting;
 
@@ -23,7 +23,7 @@ pub struct Progress {
 pub(crate) fn put_row(echo: u8, error: u8, p: Progress, room: &mut [u8]) -> Progress
     requires { ⌜ p .end + 4 ≤ length (now room) ⌝ }
     ensures { λ r. ⌜ r ≡ record { end = p .end + 4; saved = p .saved; settings = p .settings } ⌝ }
-    ensures { λ _. ⌜ now (room .exit) ≡ putAt (p .end) (replyRows echo error []) (now (room .entry)) ⌝ }
+    ensures { λ _. ⌜ now (room .exit) ≡ putAt (p .end) (replyRow echo error []) (now (room .entry)) ⌝ }
 {
     let at = p.end;
     let settings = p.settings;
@@ -65,7 +65,7 @@ fn put_word(code: u8, value: u32, at: usize, room: &mut [u8]) -> usize
 // The field with a setting's value; says where it ends.
 pub(crate) fn put_value(setting: Setting, value: u32, at: usize, room: &mut [u8]) -> usize
     requires { ⌜ at + 6 ≤ length (now room) ⌝ }
-    ensures { λ r. ⌜ (r ≡ at + length (valueRow setting value)) × (now (room .exit) ≡ putAt at (valueRow setting value) (now (room .entry))) ⌝ }
+    ensures { λ r. ⌜ (r ≡ at + length (valueField setting value)) × (now (room .exit) ≡ putAt at (valueField setting value) (now (room .entry))) ⌝ }
 {
     let code = page::code_of(setting);
     match setting {

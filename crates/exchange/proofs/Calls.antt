@@ -27,14 +27,14 @@ not-a5 kind k e = differ (sym (rw e at k))
 
 pub call-obeys : CallObeys
 unfolding answering receivedOf
-call-obeys port b room page kind as′ r h l n =
-    let p : List ℕ = askedFields kind as′ in
-    let s = fields-short kind as′ n in
-    let o : Obeyed kind as′ = written-is-obeyed kind as′ h l n in
+call-obeys port b room page kind asks r h l n =
+    let p : List ℕ = askedFields kind asks in
+    let s = fields-short kind asks n in
+    let o : Obeyed kind asks = written-is-obeyed kind asks h l n in
     let t : RoundTrip kind p = written-is-read kind p s in
-    let a : answering port (receivedOf true (messageOf kind p)) (b .settings) room page ≡ answerWith kind (askedOutcomes (pageAccess port) kind (stateOf b page) as′) room =
+    let a : answering port (receivedOf true (messageOf kind p)) (b .settings) room page ≡ answerWith kind (askedOutcomes (pageAccess port) kind (stateOf b page) asks) room =
     rw (o .outcome (List ℕ) (pageAccess port) (stateOf b page), le-ltb (length room) replyRoom (r .large-room), t .kind-back) in
-    fed-alone port b room page kind p r (not-a5 kind (fields-some kind as′ h l .0)) s
+    fed-alone port b room page kind p r (not-a5 kind (fields-some kind asks h l .0)) s
     ∙ ap (λ (a : Answering). feedOn (answeredStep (messageOf kind p) a) port b) a
 
 -- One after nothing is that one.

@@ -27,10 +27,10 @@ answeredWith port b room kind m o = feedOn (answeredStep m (answerWith kind o ro
 -- without error, and with exactly the effects that are asked for, in order. Proof: Calls `call-obeys`.
 abbrev pub CallObeys : Type 0
 CallObeys =
-    (port : ℕ) (b : Board) (room page : List ℕ) (kind : ℕ) (as′ : List Asked) → Ready port b room page
-    → allRight kind as′ ≡ true → 1 ≤ length as′ → length as′ ≤ mostFields
-    → feedOf port b (messageOf kind (askedFields kind as′)) room page
-    ≡ answeredWith port b room kind (messageOf kind (askedFields kind as′)) (askedOutcomes (pageAccess port) kind (stateOf b page) as′)
+    (port : ℕ) (b : Board) (room page : List ℕ) (kind : ℕ) (asks : List Asked) → Ready port b room page
+    → allRight kind asks ≡ true → 1 ≤ length asks → length asks ≤ mostFields
+    → feedOf port b (messageOf kind (askedFields kind asks)) room page
+    ≡ answeredWith port b room kind (messageOf kind (askedFields kind asks)) (askedOutcomes (pageAccess port) kind (stateOf b page) asks)
 
 -- So is what the command writer writes, with exactly the effect of its code, function and value. Proof: Calls `writer-obeyed`.
 abbrev pub WriterObeyed : Type 0

@@ -1,5 +1,5 @@
 // Reads standard input as port 0 of a board with a blank page, and prints the listing of it: the heading, a line for each
-// message that a feed answers, and the counts.
+// row of a reply, and the counts.
 mod feeds;
 mod output;
 

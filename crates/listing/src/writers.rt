@@ -12,7 +12,7 @@ use crate::put::put_text;
 use message::Written;
 use message::write_bytes;
 
-// The longest line of a message: two codes of two digits, an error of three, `saved`, and what stands between them.
+// The longest line of a row: two codes of two digits, an error of three, `saved`, and what stands between them.
 pub const LONGEST_LINE: usize = 16;
 
 // The longest line of counts: three numbers of 20 digits, their names, and what stands between them.
@@ -45,7 +45,7 @@ fn put_line(kind: u8, echo: u8, error: u8, saved: bool, line: &mut [u8]) -> usiz
     put_page(saved, c, line)
 }
 
-// The line of a message that a feed answered: its type, and the echo and the error of the reply.
+// The line of a row: the reply's type, and the row's echo and error.
 pub fn write_line(kind: u8, echo: u8, error: u8, saved: bool, room: &mut [u8]) -> Written
     ensures { λ r. ⌜ record { answer = r; room = now (room .exit) } ≡ writingOf (lineOf kind echo error saved) (now (room .entry)) ⌝ }
 {

@@ -80,7 +80,7 @@ fn handle_within(args: &[u8], bench: Bench, out: Output) -> Told {
     }
 }
 
-// Byte 3 of a reply is its payload's length, byte 7 the error. Where nothing is answered there is no reply.
+// Byte 3 of a reply is its payload's length, byte 7 the error of its first row. Where nothing is answered there is no reply.
 fn say_handled(fed: Fed, room: &[u8; 166], out: Output) -> Output {
     let board = fed.board;
     let settings = board.settings;

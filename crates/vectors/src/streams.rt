@@ -22,7 +22,7 @@ struct Track {
     done: bool,
     messages: usize,
     skipped: usize,
-    // digests of the replies, and of their types, echoes and errors
+    // digests of the replies, and of type, echo and error of their first rows
     replies: u64,
     marks: u64,
 }
@@ -128,7 +128,7 @@ fn piece_size(k: usize) -> usize {
 }
 
 // Each port alone gives what the whole stream gave, and leaves the other fresh. With both in turn the settings are shared,
-// and so is what a reply reports of them: the counts, the types, echoes and errors are the same.
+// and so is what a reply reports of them: the counts are the same, and type, echo and error of each reply's first row.
 fn size_agrees(s: &[u8], whole: Run, size: usize, other: usize) -> bool {
     let track = whole.first;
     let bench = whole.bench;

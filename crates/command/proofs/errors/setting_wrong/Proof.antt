@@ -11,8 +11,8 @@ value-size-requires c κs = search needs
 add-size-right : tie.Need-add-size-right
 add-size-right c = omega (arith, size-most (c .before .args .setting), c .value-size .ensures)
 
-sized-requires : tie.Need-sized-requires
-sized-requires c κs = search needs
+count-of-requires : tie.Need-count-of-requires
+count-of-requires c κs = search needs
 
 size-right-requires : tie.Need-size-right-requires
 size-right-requires c κs = search needs
@@ -44,7 +44,7 @@ setting-wrong-spec =
     (tie.spec
     value-size-requires
     add-size-right
-    sized-requires
+    count-of-requires
     size-right-requires
     returns
     returns-2

@@ -1,7 +1,6 @@
 -- `lister::output::gather_rows` is safe, and comes to an end: every row has at least 4 bytes.
 use Prim.Native.Nat.{_-_, _<_}
-use native.Mathlib.Omega.{arith}
-use mathlib.Core.Path.{_≡_, refl}
+use mathlib.Core.Path.{_≡_}
 use lib.ListN.{length}
 use borrow.Author.Needs.{needs}
 use Rattle.lister.proofs.output.gather_rows.Statement.{statement}

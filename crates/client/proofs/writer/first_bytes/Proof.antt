@@ -1,0 +1,20 @@
+-- `client::writer::first_bytes` meets its contract.
+use native.Mathlib.Nat.{sub-zero}
+use borrow.Author.Needs.{needs}
+use Rattle.client.proofs.writer.first_bytes.Statement.{statement}
+use Rattle.client.proofs.writer.first_bytes.Tie as tie
+
+sub-result : tie.Need-sub-result
+sub-result c = search needs
+
+part-result-start : tie.Need-part-result-start
+part-result-start c = search needs
+
+part-result-end : tie.Need-part-result-end
+part-result-end c = search needs
+
+returns : tie.Need-returns
+returns c = rw sub-zero
+
+pub first-bytes-spec : {M : Type 1} → statement M
+first-bytes-spec = tie.close (tie.spec sub-result part-result-start part-result-end returns)
