@@ -21,7 +21,7 @@ use Rattle.command.specs.declared.command.Command.{Command}
 use Rattle.command.specs.Effects.{workingValue, Effect, effectOf, settingsAllowed}
 use Rattle.command.specs.Outcome.{receivedOf, pageAfter, fieldOutcome}
 use Rattle.command.specs.Answer.{loadedFrom, savedOn, pageAccess}
-use Rattle.command.specs.Theorems.{Alike}
+use Rattle.command.specs.Several.{Alike}
 use Rattle.command.proofs.Separate.{fields-alike}
 use Rattle.message.specs.Message.{messageOf}
 use Rattle.command.proofs.Keeps.{value-allowed, keeps-allowed}
@@ -57,7 +57,7 @@ passes-tests x y r =
 -- Both sides of a field, with the page as the writing of the values.
 both-handled : (port : ℕ) (w : Settings) (v : Values) (c : Command) → settingsAllowed w ≡ true → allAllowed v ≡ true
     → Alike StoredAs (fieldOutcome (valuesAccess port) (record { settings = w; page = v }) c) (fieldOutcome (pageAccess port) (record { settings = w; page = writing v }) c)
-unfolding fieldOutcome
+unfolding fieldOutcome effectOf
 both-handled port w v c a b =
     let l : loadedFrom (writing v) ≡ loadedOf v = sym (loaded-same v b) in
     let e : Effect = effectOf (loadedOf v) w c in

@@ -183,7 +183,7 @@ asked-right kind a h = go (askedSubject kind a) refl h
 
 module _ {P : Type 0} (access : Access P) (kind : ℕ) where
   pub field-obeyed : (x : State P) (a : Asked) → askedRight kind a ≡ true → fieldOutcome access x (commandOf kind (fieldAs kind a)) ≡ askedOutcome access kind x a
-  unfolding fieldOutcome
+  unfolding fieldOutcome effectOf
   field-obeyed x a h =
       let r = asked-right kind a h in
-      rw (r .obeyed .no-error, r .obeyed .effect (access .loaded (x .page)) (x .settings), r .code-right)
+      rw (r .obeyed .effect (access .loaded (x .page)) (x .settings), r .obeyed .no-error, r .code-right)

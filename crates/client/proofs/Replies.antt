@@ -111,7 +111,7 @@ module _ (port : ℕ) (x : State (List ℕ)) (ok : Sound x) (c : Command) (bs : 
 
   -- A field that reports nothing has the plain row.
   silent : effectOf (loadedFrom (x .page)) (x .settings) c .report ≡ [] → reported c (x .settings) ≡ Absent → FieldTold
-  unfolding FieldTold fieldOutcome
+  unfolding FieldTold fieldOutcome effectOf
   silent r v = rw (r, v) (plain-told (c .kind) (c .code) (fieldError c) (error-most c) bs rs t)
 
   about-told : (s : Setting) → subjectOf (c .kind) (c .code) ≡ About s → fieldError c ≡ 0 → (f : ℕ) → c .function ≡ f → FieldTold

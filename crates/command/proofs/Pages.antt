@@ -102,7 +102,7 @@ saved-as (some s) w page h a =
     )
 
 pub field-goes : (port : ℕ) (x : State (List ℕ)) (c : Command) → Sound x → Goes (x .page) (fieldOutcome (pageAccess port) x c)
-unfolding fieldOutcome
+unfolding fieldOutcome effectOf
 field-goes port x c k =
     let e = effectOf (loadedFrom (x .page)) (x .settings) c in
     let s = saved-as (e .saves) (x .settings) (x .page) (k .page) (k .settings) in
@@ -112,7 +112,7 @@ field-goes port x c k =
     }
 
 pub field-keeps : FieldKeeps
-unfolding fieldOutcome
+unfolding fieldOutcome effectOf
 field-keeps port x c h a =
     record {
       saved = λ s so.

@@ -43,7 +43,7 @@ effect-row loaded w c = go (fieldError c)
 
 module _ {P : Type 0} (access : Access P) where
   pub outcome-most : (x : State P) (c : Command) → length (fieldOutcome access x c .rows) ≤ 10
-  unfolding fieldOutcome
+  unfolding fieldOutcome effectOf
   outcome-most x c = omega (arith, effect-row (access .loaded (x .page)) (x .settings) c)
 
   pub outcome-least : (x : State P) (c : Command) → 4 ≤ length (fieldOutcome access x c .rows)

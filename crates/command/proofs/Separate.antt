@@ -21,7 +21,7 @@ use Rattle.command.specs.Command.{commandOf, commandsOf, subjectOf}
 use Rattle.command.specs.Errors.{fieldWrong, fieldError, messageError}
 use Rattle.command.specs.Effects.{effectOf}
 use Rattle.command.specs.Outcome.{Access, State, Outcome, Received, receivedOf, replyOf, fieldsIn, idle, thenOutcome, fieldOutcome, fieldsOutcome, messageOn, messageOutcome}
-use Rattle.command.specs.Theorems.{inTurn, separate, AsSeparate, sixteenReports, LongestReply, Alike, FieldsAlike}
+use Rattle.command.specs.Several.{inTurn, separate, AsSeparate, sixteenReports, LongestReply, Alike, FieldsAlike}
 use Rattle.command.proofs.Rows.{outcomes-most}
 use Rattle.command.proofs.Tests.{message-passed, fields-some}
 

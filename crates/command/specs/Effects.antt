@@ -67,10 +67,11 @@ fieldEffect Ping loaded w c = leaving w
 fieldEffect (About s) loaded w c = functionEffect (c .function) loaded w s (valueFor s c)
 fieldEffect Unknown loaded w c = leaving w
 
--- A command with an error changes nothing.
+-- A field with an error changes nothing.
 abbrev pub effectOn : ℕ → Effect → Settings → Effect
 effectOn zero e w = e
 effectOn (suc n) e w = leaving w
 
+-- The effect of a field with its own error.
 unfoldable pub effectOf : (Setting → ℕ) → Settings → Command → Effect
 effectOf loaded w c = effectOn (fieldError c) (fieldEffect (subjectOf (c .kind) (c .code)) loaded w c) w

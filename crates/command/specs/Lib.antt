@@ -5,4 +5,5 @@ pub mod Effects
 pub mod Errors
 pub mod Outcome
 pub mod Place
+pub mod Several
 pub mod Theorems

@@ -10,9 +10,9 @@ use Rattle.message.specs.Fields.{Field, fieldsOf}
 use Rattle.message.specs.Message.{messageOf, typeOf, payloadOf}
 use Rattle.command.specs.declared.settings.Settings.{Settings}
 use Rattle.command.specs.declared.command.Command.{Command}
-use Rattle.command.specs.Command.{commandsOf}
+use Rattle.command.specs.Command.{subjectOf, commandsOf}
 use Rattle.command.specs.Errors.{fieldError, messageError}
-use Rattle.command.specs.Effects.{workingValue, Effect, effectOf}
+use Rattle.command.specs.Effects.{workingValue, Effect, fieldEffect, effectOn}
 
 -- ---- what handling is given
 
@@ -90,9 +90,15 @@ module _ {P : Type 0} (save : P → Setting → ℕ → P) where
       }
 
 module _ {P : Type 0} (access : Access P) where
-  -- One field handled: its row has its code and its error.
+  -- A field with this error: its row has its code and the error, and an error leaves all as it is.
+  abbrev pub fieldOn : ℕ → State P → Command → Outcome P
+  fieldOn error x c =
+      rowOutcome (c .code) error
+      (effectOutcome (access .save) (effectOn error (fieldEffect (subjectOf (c .kind) (c .code)) (access .loaded (x .page)) (x .settings) c) (x .settings)) x)
+
+  -- One field handled.
   unfoldable pub fieldOutcome : State P → Command → Outcome P
-  fieldOutcome x c = rowOutcome (c .code) (fieldError c) (effectOutcome (access .save) (effectOf (access .loaded (x .page)) (x .settings) c) x)
+  fieldOutcome x c = fieldOn (fieldError c) x c
 
   -- The fields in order, each on what those before it left.
   unfoldable pub fieldsOutcome : State P → List Command → Outcome P

@@ -63,7 +63,7 @@ row-size echo error (b ∷ n ∷ bs) rest r a =
 
 module _ (P : Type 0) (access : Access P) where
   first : (x : State P) (c : Command) (rest : List ℕ) → AnotherRow rest → RowFound access x c rest
-  unfolding fieldOutcome
+  unfolding fieldOutcome effectOf
   first x c rest a =
       let report : List ℕ = effectOf (access .loaded (x .page)) (x .settings) c .report in
       let s : 4 + length report ≡ length (replyRow (c .code) (fieldError c) report) = omega arith in
