@@ -27,6 +27,7 @@ enum {
     KETPHIROJ_LONGEST_MESSAGE = 261,
     KETPHIROJ_REPLY_ROOM = 166,      /* the longest reply, to a command of 16 fields, and the least room for a feed */
     KETPHIROJ_PAGE_SIZE = 64,
+    KETPHIROJ_NUMBERED = 0x7C,       /* the type of a numbered command, and of the reply to it */
     KETPHIROJ_DATA_SIZE = 34         /* a data message of an acceleration and a rate */
 };
 
@@ -90,7 +91,7 @@ typedef struct {
     size_t held;    /* what the named port holds now */
     ketphiroj_settings settings; /* the working values now */
     uint8_t number;
-    bool saved;     /* whether a save was accepted, of any field: the page was written */
+    bool saved;     /* whether a save was accepted, of any field, or a fresh number was taken: the page was written */
 } ketphiroj_stepped;
 
 /*
@@ -102,10 +103,26 @@ typedef struct {
  * those after it. Where the fields do not fill the payload exactly, or are more than 16, nothing is done, and the error is 4.
  * 0: a message was answered. Its reply is at the front of `room`: 4 bytes, payload, 2 bytes, where byte 3 is the length of the
  *    payload; the rest of the room is left alone. The payload has a row for each field of the command, or one row where its fields
- *    are not reached, see ketphiroj_read_reply. Where `saved`, the page was written anew, else it is as it was.
+ *    are not reached, see ketphiroj_read_reply. Where `saved`, the page was written anew and is to be stored before the reply is
+ *    sent, else it is as it was.
  * 1: the whole chunk was taken, and there is nothing more to report. Nothing was written to the room or the page.
  * 16, 17, 18, 19, 20: refused; an array that is not 260 bytes gives 17. Nothing was taken or written, and the held count and the
  *    settings are those given.
+ *
+ * Numbered commands. A message of type 0x7C is a command with a number in front: its payload is the number (4 bytes, big-endian),
+ * the type 0x01 or 0x02, and the fields. Either port takes it. The number is fresh where it is larger than the one that the page
+ * keeps, or where the page keeps none. A fresh number is written to the page, then the command is handled; the number is spent
+ * even where the command is answered with an error. One that is not fresh is answered with error 5, and nothing changes. Once the
+ * page keeps a number, port 0 answers functions 1, 3, 4 and 5 without a number with error 5; Ping and function 2 go on, and port 1
+ * takes all of them. After 4294967295 no number is fresh until the page is erased.
+ * So no number is accepted twice over one page, however often a board is started on it. For this to hold over a power cut the
+ * driver must
+ *   - store the page where `saved`, and only then act on the answer: send the reply, and put the answered settings to use. A number
+ *     that was answered and is not on the stored page would be accepted again after the cut. Where storing fails, send nothing and
+ *     feed nothing more, but start again on the stored page;
+ *   - store it whole or not at all: a page of which only a part was stored may keep a smaller number, or the next start refuses it;
+ *   - start on the page that was stored last, never on an older copy, and let nobody else write or erase it. Where a start answers 20,
+ *     the number is lost: a blank page in its place would let every number be accepted again, so that is for a person to decide.
  */
 ketphiroj_stepped ketphiroj_feed_in_place(
     uint8_t port, uint8_t *bytes, size_t bytes_length, size_t first, size_t second, ketphiroj_settings settings,
@@ -152,6 +169,14 @@ ketphiroj_written ketphiroj_write_message(
 ketphiroj_written ketphiroj_write_command(uint8_t code, uint8_t function, uint32_t value, uint8_t *room, size_t room_length);
 
 /*
+ * Writes a numbered command, a message of type 0x7C: the number, then the type and the field that ketphiroj_write_command would
+ * write. Numbers: 0; 28, 18. For several fields put the four bytes of the number, the highest first, and the type in front,
+ * append the fields with ketphiroj_append_field from length 5 on, and make the message with type 0x7C.
+ */
+ketphiroj_written ketphiroj_write_numbered(
+    uint32_t number, uint8_t code, uint8_t function, uint32_t value, uint8_t *room, size_t room_length);
+
+/*
  * Writes one field of a command of type `kind` behind the first `length` bytes of the room, a payload that is being built. Type
  * 0x01 has the code 0x02, type 0x02 the others; functions and values as with ketphiroj_write_command. The length answered is the
  * payload's new one; only the field's own bytes are written. ketphiroj_write_message makes the message, with the same type; a
@@ -164,14 +189,26 @@ ketphiroj_written ketphiroj_append_field(
 /* One row of a reply, which answers one field of a command. With any number but 0 all else is 0 and false. */
 typedef struct {
     uint8_t number;
-    uint8_t kind; /* the type, as in the command */
-    uint8_t echo; /* the field's code; of a command whose fields were not reached its first payload byte, 0 if it had none */
-    uint8_t error; /* 0 to 4 */
+    uint8_t kind; /* the type, as in the command; 0x7C for a numbered one */
+    /*
+     * The field's code. Of a command whose fields were not reached its first payload byte, 0 if it had none; of a numbered one
+     * with right sums the first byte behind the number and the type, 0 if there is none.
+     */
+    uint8_t echo;
+    /*
+     * 0 to 5. 1: wrong sums; 2: no such type; 3: no such code, or no field; 4: a wrong size, function or value, fields that do not
+     * fill the payload or are more than 16, or a numbered command that is too short; 5: a number that is not fresh, or none
+     * where one is needed.
+     */
+    uint8_t error;
     bool has_value;
     uint32_t value; /* 0 where there is none */
 } ketphiroj_reply;
 
-/* Reads row `row`, counted from 0, of a reply that is one whole message of 1 to 16 rows. Numbers: 0; 21, 22, 23, 27. */
+/*
+ * Reads row `row`, counted from 0, of a reply that is one whole message of 1 to 16 rows: several only in types 0x01, 0x02 and
+ * 0x7C, values only in 0x02 and 0x7C. Numbers: 0; 21, 22, 23, 27.
+ */
 ketphiroj_reply ketphiroj_read_reply(const uint8_t *message, size_t message_length, size_t row);
 
 /* ---- data messages: an axis goes in and out as the 32 bits of an IEEE 754 single float, NaN patterns too */
@@ -207,6 +244,8 @@ typedef struct {
     uint32_t accelerometer;
     bool has_gyroscope;
     uint32_t gyroscope;
+    bool has_last_number;
+    uint32_t last_number; /* the last number accepted, under code 0x70: any value */
 } ketphiroj_values;
 
 /* Is this page blank or sound? Numbers: 0; 19, 20. */
@@ -221,12 +260,16 @@ typedef struct {
 /* Reads the values that a blank or sound page keeps. Numbers: 0; 19, 20. */
 ketphiroj_page_read ketphiroj_read_page(const uint8_t *page, size_t page_length);
 
-/* Writes all 64 bytes of the page, so that it keeps these values. Numbers: 0; 19, 20 (a value that is there is not allowed). */
+/*
+ * Writes all 64 bytes of the page, so that it keeps these values. Numbers: 0; 19, 20 (a value that is there is not allowed).
+ * Not for a page that a board runs on: a smaller number, or none, lets the board accept numbers again.
+ */
 uint8_t ketphiroj_write_page(ketphiroj_values values, uint8_t *page, size_t page_length);
 
 /*
  * Copies the bytes under a code to the room's front: from the saved page if it has an entry, else from the factory page; length
- * 0 where neither has one. Numbers: 0; 19, 20 of the saved page, then 19, 20 of the factory page, then 18.
+ * 0 where neither has one. The factory page keeps no number (0x70). Numbers: 0; 19, 20 of the saved page, then 19, 20 of the
+ * factory page, then 18.
  */
 ketphiroj_written ketphiroj_copy_body(
     const uint8_t *saved, size_t saved_length, const uint8_t *factory, size_t factory_length, uint8_t code, uint8_t *room,

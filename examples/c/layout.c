@@ -27,9 +27,10 @@ _Static_assert(offsetof(ketphiroj_field, x) == 16 && offsetof(ketphiroj_field, y
 _Static_assert(offsetof(ketphiroj_field, z) == 24 && sizeof(ketphiroj_field) == 32, "field");
 _Static_assert(offsetof(ketphiroj_values, baud) == 4 && offsetof(ketphiroj_values, has_accelerometer) == 8, "values");
 _Static_assert(offsetof(ketphiroj_values, accelerometer) == 12 && offsetof(ketphiroj_values, has_gyroscope) == 16, "values");
-_Static_assert(offsetof(ketphiroj_values, gyroscope) == 20 && sizeof(ketphiroj_values) == 24, "values");
-_Static_assert(offsetof(ketphiroj_page_read, values) == 0 && offsetof(ketphiroj_page_read, number) == 24, "page read");
-_Static_assert(sizeof(ketphiroj_page_read) == 28, "page read");
+_Static_assert(offsetof(ketphiroj_values, gyroscope) == 20 && offsetof(ketphiroj_values, has_last_number) == 24, "values");
+_Static_assert(offsetof(ketphiroj_values, last_number) == 28 && sizeof(ketphiroj_values) == 32, "values");
+_Static_assert(offsetof(ketphiroj_page_read, values) == 0 && offsetof(ketphiroj_page_read, number) == 32, "page read");
+_Static_assert(sizeof(ketphiroj_page_read) == 36, "page read");
 
 static int agreeing, differing;
 static uint8_t page[KETPHIROJ_PAGE_SIZE];
@@ -127,7 +128,8 @@ static void ports_hold_bytes(void) {
 
 static bool same_values(ketphiroj_values a, ketphiroj_values b) {
     return a.has_baud == b.has_baud && a.baud == b.baud && a.has_accelerometer == b.has_accelerometer
-        && a.accelerometer == b.accelerometer && a.has_gyroscope == b.has_gyroscope && a.gyroscope == b.gyroscope;
+        && a.accelerometer == b.accelerometer && a.has_gyroscope == b.has_gyroscope && a.gyroscope == b.gyroscope
+        && a.has_last_number == b.has_last_number && a.last_number == b.last_number;
 }
 
 /* Whether the page is read with number 0 and keeps these values. */
@@ -138,15 +140,20 @@ static bool keeps(ketphiroj_values values) {
 
 /* The values on the page that was just saved, and a struct of values handed in. */
 static void values_pass(void) {
-    agree(keeps((ketphiroj_values){false, 0, false, 0, true, 3}), "values read");
-    ketphiroj_values w = {true, 9600, false, 99, true, 7};
+    agree(keeps((ketphiroj_values){false, 0, false, 0, true, 3, false, 0}), "values read");
+    ketphiroj_values w = {true, 9600, false, 99, true, 7, false, 99};
     agree(ketphiroj_write_page(w, page, sizeof page) == KETPHIROJ_DONE, "values written");
-    agree(keeps((ketphiroj_values){true, 9600, false, 0, true, 7}), "values back");
+    agree(keeps((ketphiroj_values){true, 9600, false, 0, true, 7, false, 0}), "values back");
     w.has_accelerometer = true;
     agree(ketphiroj_write_page(w, page, sizeof page) == KETPHIROJ_BAD_PAGE, "a value that is not allowed");
-    ketphiroj_values one = {false, 9600, true, 4, false, 7};
+    ketphiroj_values one = {false, 9600, true, 4, false, 7, false, 5};
     agree(ketphiroj_write_page(one, page, sizeof page) == KETPHIROJ_DONE, "one value written");
-    agree(keeps((ketphiroj_values){false, 0, true, 4, false, 0}), "one value back");
+    agree(keeps((ketphiroj_values){false, 0, true, 4, false, 0, false, 0}), "one value back");
+    ketphiroj_values all = {true, 921600, true, 4, true, 7, true, 0xFEDCBA98};
+    agree(ketphiroj_write_page(all, page, sizeof page) == KETPHIROJ_DONE && keeps(all), "a number with three values");
+    ketphiroj_values number = {false, 1, false, 2, false, 3, true, 0};
+    agree(ketphiroj_write_page(number, page, sizeof page) == KETPHIROJ_DONE, "a number alone");
+    agree(keeps((ketphiroj_values){false, 0, false, 0, false, 0, true, 0}), "a number alone back");
     w.has_accelerometer = false;
     agree(ketphiroj_write_page(w, page, sizeof page) == KETPHIROJ_DONE, "two values written");
 }
@@ -171,7 +178,7 @@ static void bodies_pass(void) {
  * and both before the room.
  */
 static void refused_pages(void) {
-    static const ketphiroj_values none = {false, 0, false, 0, false, 0};
+    static const ketphiroj_values none = {false, 0, false, 0, false, 0, false, 0};
     uint8_t factory[KETPHIROJ_PAGE_SIZE + 1] = {0}, unsound[KETPHIROJ_PAGE_SIZE];
     ketphiroj_factory_page(factory, sizeof factory);
     memcpy(unsound, factory, sizeof unsound);
@@ -294,6 +301,28 @@ static void arrays_are_measured(void) {
     agree(s.settings.baud == 9600 && s.settings.accelerometer == 3 && s.settings.gyroscope == 7, "settings answered");
 }
 
+/* A numbered command, each argument in its place, taken by a board; the page keeps the number. */
+static void numbers_pass(void) {
+    static const uint8_t expected[] = {
+        0xA5, 0xA5, 0x7C, 0x09, 0xFE, 0xDC, 0xBA, 0x98, 0x02, 0x08, 0x02, 0x01, 0x07, 0x0F, 0x78, 0x77};
+    uint8_t message[sizeof expected];
+    memset(message, 0x77, sizeof message);
+    ketphiroj_written w = ketphiroj_write_numbered(0xFEDCBA98, 0x08, 1, 7, message, sizeof message);
+    agree(w.number == KETPHIROJ_DONE && w.length == 15 && memcmp(message, expected, sizeof expected) == 0, "a number");
+    w = ketphiroj_write_numbered(1, 0x08, 1, 8, message, 0);
+    agree(w.number == KETPHIROJ_NO_COMMAND && w.length == 0, "a numbered command that is none");
+    w = ketphiroj_write_numbered(1, 0x08, 1, 7, message, 14);
+    agree(w.number == KETPHIROJ_SHORT_ROOM && w.length == 0, "a numbered command without room");
+    memset(page, 0xFF, sizeof page);
+    fed_board fed = feed(0, ketphiroj_start(page, sizeof page).board, message, 15);
+    agree(fed.answer.number == KETPHIROJ_DONE && fed.answer.saved && fed.board.settings.gyroscope == 7, "a number taken");
+    agree(keeps((ketphiroj_values){false, 0, false, 0, false, 0, true, 0xFEDCBA98}), "the number that a page keeps");
+    fed = feed(1, fed.board, message, 15);
+    agree(fed.answer.number == KETPHIROJ_DONE && !fed.answer.saved, "a number again");
+    ketphiroj_reply r = ketphiroj_read_reply(room, 6u + room[3], 0);
+    agree(r.number == KETPHIROJ_DONE && r.kind == KETPHIROJ_NUMBERED && r.echo == 0x08 && r.error == 5, "error 5");
+}
+
 int main(void) {
     memset(page, 0xFF, sizeof page);
     refusal_returns_board();
@@ -307,6 +336,7 @@ int main(void) {
     patterns_pass();
     settings_come_back();
     arrays_are_measured();
+    numbers_pass();
     printf("layout: %d agree, %d differ\n", agreeing, differing);
     return differing != 0;
 }

@@ -71,7 +71,8 @@ pub enum Outcome {
         taken: usize,
         /// Bytes that the scan skipped.
         skipped: usize,
-        /// Whether a save was accepted, of any field; the page has then been written.
+        /// Whether a save was accepted, of any field, or a fresh number was taken; the page has then been written, and is
+        /// to be stored before the reply is sent.
         saved: bool,
         /// The length of the reply at the front of the room.
         reply: usize,
@@ -132,6 +133,18 @@ impl Board {
     /// row for each. Where the fields do not fill the payload, or are more than 16, nothing is done, and the reply has
     /// one row with error 4.
     ///
+    /// A numbered command (type 7C: a number of four bytes, then a command's type and its fields) is accepted on either
+    /// port where its number is fresh: larger than the one that the page keeps, or any where it keeps none. The number is
+    /// then written to the page and the command is handled; the number is spent even where that gives an error. A number
+    /// that is not fresh is answered with error 5, and nothing changes. As soon as the page keeps a number, port 0 answers
+    /// with error 5 what would change something and has no number (functions 1, 3, 4 and 5); port 1 takes it. After
+    /// 4294967295 no number is fresh until the page is erased.
+    ///
+    /// So no number is ever accepted twice over one page, whatever is fed and however often the board starts anew. Over a
+    /// power cut that holds only if the page is stored where `saved` says so, whole or not at all, **before the reply is
+    /// sent** and the settings are put to use: a number that was answered and is not on the stored page would be accepted
+    /// again. The board is to be started on the page that was stored last, and nobody else may write or erase it.
+    ///
     /// Refuses with [`Refusal::Port`], [`Refusal::Unsound`], [`Refusal::Room`], [`Refusal::PageLength`] and
     /// [`Refusal::Page`], the first that applies; the board is then as it was.
     ///
@@ -163,6 +176,49 @@ impl Board {
     /// assert_eq!(replies[0], (vec![0xA5, 0xA5, 0x01, 0x04, 0x80, 0x02, 0x02, 0x01, 0xD4, 0xD0], false));
     /// assert!(replies[1].1);
     /// assert_eq!(page[..8], [0x01, 0x01, 0x04, 0x04, 0x00, 0x01, 0xC2, 0x00]);
+    /// # Ok::<(), Refusal>(())
+    /// ```
+    ///
+    /// A numbered command, sent again after a power cut:
+    ///
+    /// ```
+    /// use ketphiroj::{code, function, read_reply, write_command, write_numbered, Board, Outcome, Refusal};
+    ///
+    /// /// Feeds a command, stores the page where it was written, then sends the reply: here, reads its error.
+    /// fn error(board: &mut Board, page: &mut [u8; 64], stored: &mut [u8; 64], command: &[u8]) -> Result<u8, Refusal> {
+    ///     let mut room = [0; Board::REPLY];
+    ///     match board.feed(0, command, &mut room, page)? {
+    ///         Outcome::Reported { reply, saved, .. } => {
+    ///             if saved {
+    ///                 *stored = *page;
+    ///             }
+    ///             Ok(read_reply(&room[..reply], 0)?.error)
+    ///         }
+    ///         Outcome::UsedUp { .. } => panic!("the command is whole"),
+    ///     }
+    /// }
+    ///
+    /// let mut stored = [0xFF; 64];
+    /// let mut page = stored;
+    /// let mut board = Board::start(&page)?;
+    /// let mut yesterday = [0; 15];
+    /// write_numbered(1, code::ACCELEROMETER, function::USE, 4, &mut yesterday)?;
+    /// assert_eq!(error(&mut board, &mut page, &mut stored, &yesterday)?, 0);
+    /// assert_eq!(board.settings.accelerometer, 4);
+    ///
+    /// // The power is cut, and the board starts anew on what was stored.
+    /// let mut page = stored;
+    /// let mut board = Board::start(&page)?;
+    /// assert_eq!(error(&mut board, &mut page, &mut stored, &yesterday)?, 5);
+    /// assert_eq!(board.settings.accelerometer, 2);
+    /// assert_eq!(page, stored);
+    ///
+    /// // Without a number port 0 does not take it either; with the next one it does.
+    /// let mut command = [0; 15];
+    /// let length = write_command(code::ACCELEROMETER, function::USE, 4, &mut command)?;
+    /// assert_eq!(error(&mut board, &mut page, &mut stored, &command[..length])?, 5);
+    /// write_numbered(2, code::ACCELEROMETER, function::USE, 4, &mut command)?;
+    /// assert_eq!(error(&mut board, &mut page, &mut stored, &command)?, 0);
     /// # Ok::<(), Refusal>(())
     /// ```
     pub fn feed(&mut self, port: u8, chunk: &[u8], room: &mut [u8], page: &mut [u8]) -> Result<Outcome, Refusal> {

@@ -36,7 +36,7 @@ pub struct Stepped {
     pub settings: Settings,
     /// 0, 1, or 16 to 20.
     pub number: u8,
-    /// Whether a save was accepted.
+    /// Whether a save was accepted or a fresh number was taken; the page has then been written.
     pub saved: bool,
 }
 
@@ -60,7 +60,7 @@ pub struct FlatReply {
     pub kind: u8,
     /// The echo.
     pub echo: u8,
-    /// The error.
+    /// The error, 0 to 5.
     pub error: u8,
     /// Whether a value was reported.
     pub has_value: bool,
@@ -102,6 +102,10 @@ pub struct FlatValues {
     pub has_gyroscope: bool,
     /// The value under code 08.
     pub gyroscope: u32,
+    /// Whether there is one under code 70.
+    pub has_last_number: bool,
+    /// The last number accepted, under code 70; any value.
+    pub last_number: u32,
 }
 
 /// What reading a page answers. Where it is refused, no value is there.
@@ -139,6 +143,14 @@ extern "C" {
         room_length: usize,
     ) -> Written;
     fn ketphiroj_write_command(code: u8, function: u8, value: u32, room: *mut u8, room_length: usize) -> Written;
+    fn ketphiroj_write_numbered(
+        number: u32,
+        code: u8,
+        function: u8,
+        value: u32,
+        room: *mut u8,
+        room_length: usize,
+    ) -> Written;
     fn ketphiroj_append_field(
         kind: u8,
         code: u8,
@@ -236,6 +248,12 @@ pub fn write_command(code: u8, function: u8, value: u32, room: &mut [u8]) -> Wri
     unsafe { ketphiroj_write_command(code, function, value, room.as_mut_ptr(), room.len()) }
 }
 
+/// Writes a numbered command: 28, 18.
+pub fn write_numbered(number: u32, code: u8, function: u8, value: u32, room: &mut [u8]) -> Written {
+    // SAFETY: `room` is valid for reads and writes of its length during the call.
+    unsafe { ketphiroj_write_numbered(number, code, function, value, room.as_mut_ptr(), room.len()) }
+}
+
 /// Writes one field of a command of a type behind the first `length` bytes of the room: 28, 18. The length answered is
 /// the payload's new one.
 pub fn append_field(kind: u8, code: u8, function: u8, value: u32, length: usize, room: &mut [u8]) -> Written {
@@ -324,6 +342,7 @@ const _: () = {
     assert!(size_of::<Written>() == 16 && offset_of!(Written, length) == 8);
     assert!(size_of::<FlatReply>() == 12 && offset_of!(FlatReply, value) == 8);
     assert!(size_of::<FlatField>() == 32 && offset_of!(FlatField, x) == 16);
-    assert!(size_of::<FlatValues>() == 24 && offset_of!(FlatValues, gyroscope) == 20);
-    assert!(size_of::<FlatPage>() == 28 && offset_of!(FlatPage, values) == 0 && offset_of!(FlatPage, number) == 24);
+    assert!(size_of::<FlatValues>() == 32 && offset_of!(FlatValues, gyroscope) == 20);
+    assert!(offset_of!(FlatValues, has_last_number) == 24 && offset_of!(FlatValues, last_number) == 28);
+    assert!(size_of::<FlatPage>() == 36 && offset_of!(FlatPage, values) == 0 && offset_of!(FlatPage, number) == 32);
 };

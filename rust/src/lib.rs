@@ -2,7 +2,7 @@
 //! ports.
 //!
 //! The library is written in Rattle and proved; `rt staticlib capi` writes it as a static library, and this crate links
-//! it. What each call answers is the paper's ("01", the board's protocol, line by line, with requests 01 and 02 of the
+//! it. What each call answers is the paper's ("01", the board's protocol, line by line, with requests 01 to 03 of the
 //! change requests), or for a call that the paper does not list what docs/DECISIONS.md says, for every input. Nothing
 //! here adds to it: refusals become the errors of [`Refusal`], numbers become enums, and lengths become slices.
 //!
@@ -10,7 +10,7 @@
 //! |---|---|
 //! | [`Board::start`], [`Board::feed`] | the board: bytes in, replies out, settings and the start-up page kept |
 //! | [`check_message`], [`write_message`] | one whole message |
-//! | [`write_command`], [`append_field`], [`read_reply`], [`read_rows`] | the controller's side |
+//! | [`write_command`], [`write_numbered`], [`append_field`], [`read_reply`], [`read_rows`] | the controller's side |
 //! | [`read_field`], [`field_data`], [`write_data`], [`write_data_bits`] | the data message |
 //! | [`check_page`], [`Values::read`], [`Values::write`], [`copy_body`], [`factory_page`] | the start-up page |
 //!
@@ -44,7 +44,9 @@ mod reply;
 
 pub use board::{Board, Outcome, Port, Settings};
 pub use data::{field_data, read_field, write_data, write_data_bits, Axes, Field};
-pub use message::{append_field, check_message, code, function, write_command, write_message};
+pub use message::{
+    append_field, check_message, code, function, write_command, write_message, write_numbered, NUMBERED,
+};
 pub use page::{check_page, copy_body, factory_page, Values, PAGE};
 pub use refusal::Refusal;
 pub use reply::{read_reply, read_rows, Reply};

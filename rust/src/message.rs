@@ -15,6 +15,9 @@ pub mod code {
     pub const GYROSCOPE: u8 = 0x08;
 }
 
+/// The type of a numbered command and of the reply to it.
+pub const NUMBERED: u8 = 0x7C;
+
 /// The functions of a setting.
 pub mod function {
     /// Use the value.
@@ -88,16 +91,39 @@ pub fn write_command(code: u8, function: u8, value: u32, room: &mut [u8]) -> Res
     length_of(ffi::write_command(code, function, value, room))
 }
 
+/// Writes the numbered command of this code and function to the room's front, and gives its length: a message of type
+/// [`NUMBERED`] with the number, then the type and the field that [`write_command`] writes. A board accepts the number
+/// where it is larger than the one that its page keeps, or where the page keeps none, and then keeps it; whatever comes
+/// of the command, the number cannot be used again. For several fields see [`append_field`].
+///
+/// Refuses with [`Refusal::Command`] and [`Refusal::Room`].
+///
+/// ```
+/// use ketphiroj::{code, function, write_numbered, Refusal};
+///
+/// let mut room = [0; 15];
+/// assert_eq!(write_numbered(1, code::ACCELEROMETER, function::USE, 3, &mut room), Ok(15));
+/// assert_eq!(room, [0xA5, 0xA5, 0x7C, 9, 0, 0, 0, 1, 0x02, 0x07, 2, 1, 3, 0xDF, 0x02]);
+/// assert_eq!(write_numbered(2, code::ACCELEROMETER, function::USE, 5, &mut room), Err(Refusal::Command));
+/// assert_eq!(write_numbered(2, code::BAUD, function::USE, 9600, &mut room), Err(Refusal::Room));
+/// ```
+pub fn write_numbered(number: u32, code: u8, function: u8, value: u32, room: &mut [u8]) -> Result<usize, Refusal> {
+    length_of(ffi::write_numbered(number, code, function, value, room))
+}
+
 /// Writes one field of a command of this type behind the first `length` bytes of the room, a payload that is being
 /// built, and gives the payload's new length: function 1 with the value, the functions 2 to 5 without, Ping without
 /// both. What is not written is not looked at. Type 01 has Ping, type 02 the settings. [`write_message`] makes a
 /// message of the payload, with the same type; a board takes up to 16 fields.
 ///
+/// A numbered command of several fields is built the same way: the four bytes of the number and the type come first, the
+/// first field is written behind 5 bytes, and the message is of type [`NUMBERED`].
+///
 /// Refuses with [`Refusal::Command`] where a board would not accept a message of this type with this field, then with
 /// [`Refusal::Room`].
 ///
 /// ```
-/// use ketphiroj::{append_field, code, function, write_message, Refusal};
+/// use ketphiroj::{append_field, code, function, write_message, Refusal, NUMBERED};
 ///
 /// let mut payload = [0; 255];
 /// let mut length = 0;
@@ -107,6 +133,14 @@ pub fn write_command(code: u8, function: u8, value: u32, room: &mut [u8]) -> Res
 /// assert_eq!(payload[..length], [1, 5, 1, 0x00, 0x0E, 0x10, 0x00, 7, 2, 1, 4, 8, 2, 1, 7]);
 /// let mut room = [0; 32];
 /// assert_eq!(write_message(0x02, &payload[..length], &mut room), Ok(21));
+///
+/// // The same with the number 7.
+/// payload[..5].copy_from_slice(&[0, 0, 0, 7, 0x02]);
+/// let mut length = 5;
+/// for (code, value) in [(code::BAUD, 921600), (code::ACCELEROMETER, 4), (code::GYROSCOPE, 7)] {
+///     length = append_field(0x02, code, function::USE, value, length, &mut payload)?;
+/// }
+/// assert_eq!(write_message(NUMBERED, &payload[..length], &mut room), Ok(26));
 ///
 /// assert_eq!(append_field(0x02, code::GYROSCOPE, function::USE, 8, 0, &mut []), Err(Refusal::Command));
 /// assert_eq!(append_field(0x02, code::GYROSCOPE, function::USE, 7, 0, &mut []), Err(Refusal::Room));

@@ -16,6 +16,9 @@ pub struct Values {
     pub accelerometer: Option<u32>,
     /// Under code 08.
     pub gyroscope: Option<u32>,
+    /// Under code 70: the last number accepted, of any value. Where there is one, port 0 takes a command that would change
+    /// something only with a larger number ([`Board::feed`](crate::Board::feed)).
+    pub last_number: Option<u32>,
 }
 
 impl Values {
@@ -27,7 +30,8 @@ impl Values {
     /// use ketphiroj::{factory_page, Refusal, Values};
     ///
     /// let mut page = factory_page();
-    /// assert_eq!(Values::read(&page)?, Values { baud: Some(115200), accelerometer: Some(2), gyroscope: Some(3) });
+    /// let factory = Values { baud: Some(115200), accelerometer: Some(2), gyroscope: Some(3), last_number: None };
+    /// assert_eq!(Values::read(&page)?, factory);
     /// assert_eq!(Values::read(&[0xFF; 64])?, Values::default());
     ///
     /// // A gyroscope's range that is not allowed: no value of the page is read.
@@ -43,10 +47,12 @@ impl Values {
             baud: flat.has_baud.then_some(flat.baud),
             accelerometer: flat.has_accelerometer.then_some(flat.accelerometer),
             gyroscope: flat.has_gyroscope.then_some(flat.gyroscope),
+            last_number: flat.has_last_number.then_some(flat.last_number),
         })
     }
 
-    /// Writes the page anew so that it keeps these values; blank with none.
+    /// Writes the page anew so that it keeps these values; blank with none. It is for pages that no board runs on: a page
+    /// that is given a smaller number, or none, lets a board accept numbers again that it has accepted before.
     ///
     /// Refuses with [`Refusal::PageLength`], and with [`Refusal::Page`] where a value is not allowed.
     ///
@@ -58,6 +64,8 @@ impl Values {
     /// assert_eq!(page[..6], [0x01, 0x08, 0x04, 0x01, 0x07, 0xFF]);
     /// let refused = Values { gyroscope: Some(8), ..Values::default() }.write(&mut page);
     /// assert_eq!(refused, Err(Refusal::Page));
+    /// Values { gyroscope: Some(7), last_number: Some(0x01020304), ..Values::default() }.write(&mut page)?;
+    /// assert_eq!(page[..13], [2, 0x08, 7, 1, 0x70, 8, 4, 7, 1, 2, 3, 4, 0xFF]);
     /// # Ok::<(), Refusal>(())
     /// ```
     pub fn write(&self, page: &mut [u8]) -> Result<(), Refusal> {
@@ -72,6 +80,8 @@ impl Values {
             accelerometer: self.accelerometer.unwrap_or(0),
             has_gyroscope: self.gyroscope.is_some(),
             gyroscope: self.gyroscope.unwrap_or(0),
+            has_last_number: self.last_number.is_some(),
+            last_number: self.last_number.unwrap_or(0),
         }
     }
 }
@@ -92,7 +102,7 @@ pub fn check_page(page: &[u8]) -> Result<(), Refusal> {
 }
 
 /// Copies the body under a code to the room's front, and gives its length: from the saved page if it has the entry,
-/// else from the factory page; nothing where neither has it.
+/// else from the factory page; nothing where neither has it. [`factory_page`] has no number.
 ///
 /// Refuses with [`Refusal::PageLength`] and [`Refusal::Page`] of the saved page, then with those of the factory page,
 /// then with [`Refusal::Room`].
@@ -112,7 +122,7 @@ pub fn copy_body(saved: &[u8], factory: &[u8], code: u8, room: &mut [u8]) -> Res
     length_of(ffi::copy_body(saved, factory, code, room))
 }
 
-/// The writing of the factory values.
+/// The writing of the factory values; it keeps no number.
 pub fn factory_page() -> [u8; PAGE] {
     let mut page = [0; PAGE];
     let written = ffi::factory_page(&mut page);

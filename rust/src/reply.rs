@@ -6,19 +6,21 @@ use crate::refusal::{done_or_refused, Refusal};
 /// What one row of a reply says, which is the answer to one field of a command.
 #[derive(Clone, Copy, Debug, PartialEq, Eq)]
 pub struct Reply {
-    /// The type, which is that of the command.
+    /// The type, which is that of the command; 7C for a numbered one.
     pub kind: u8,
     /// The field's code; in the one row of a command whose fields were not reached, its first payload byte, or 0 if it
-    /// had none.
+    /// had none. In type 7C that is the first byte behind the number and the type inside, but where the sums are wrong.
     pub echo: u8,
-    /// 0 done, 1 sums wrong, 2 unknown type, 3 unknown code or no field, 4 not allowed, or the fields do not fill the payload or are
-    /// more than 16.
+    /// 0 done, 1 sums wrong, 2 unknown type, 3 unknown code or no field, 4 not allowed, or the fields do not fill the
+    /// payload or are more than 16, or a numbered command is too short, 5 the number is not fresh, or there is none where
+    /// one is needed.
     pub error: u8,
     /// The working value, where one was reported; its code is the echo.
     pub value: Option<u32>,
 }
 
-/// Reads row `row`, counted from 0, of a reply that is one whole message of 1 to 16 rows.
+/// Reads row `row`, counted from 0, of a reply that is one whole message of 1 to 16 rows: several only in types 01, 02
+/// and 7C, values only in 02 and 7C.
 ///
 /// Refuses with [`Refusal::NotWhole`], [`Refusal::Sums`], [`Refusal::Kind`] and [`Refusal::NoField`].
 ///

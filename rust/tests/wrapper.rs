@@ -1,9 +1,9 @@
-//! The paper's sample lines through the wrapper, and every refusal.
+//! The paper's sample lines through the wrapper, every refusal, and numbered commands over a power cut.
 
 use ketphiroj::{
     append_field, check_message, check_page, code, copy_body, factory_page, field_data, function, read_field,
-    read_reply, read_rows, write_command, write_data, write_message, Board, Outcome, Refusal, Reply, Settings, Values,
-    PAGE,
+    read_reply, read_rows, write_command, write_data, write_message, write_numbered, Board, Outcome, Refusal, Reply,
+    Settings, Values, NUMBERED, PAGE,
 };
 
 const BLANK: [u8; PAGE] = [0xFF; PAGE];
@@ -115,7 +115,8 @@ fn saves() {
     }
     assert_eq!(page[..16], hex("03 010A04 070E01 080F01 0001C200 02 03"));
     assert_eq!(page, factory_page());
-    assert_eq!(Values::read(&page), Ok(Values { baud: Some(115200), accelerometer: Some(2), gyroscope: Some(3) }));
+    let factory = Values { baud: Some(115200), accelerometer: Some(2), gyroscope: Some(3), last_number: None };
+    assert_eq!(Values::read(&page), Ok(factory));
 }
 
 /// The command of these settings, each with one function.
@@ -195,6 +196,196 @@ fn longest_reply() {
     assert_eq!(read_rows(reply).unwrap().count(), 16);
 }
 
+/// A board, and the page that its driver stores before it sends a reply.
+struct Driver {
+    board: Board,
+    page: [u8; PAGE],
+    stored: [u8; PAGE],
+}
+
+impl Driver {
+    fn start(stored: [u8; PAGE]) -> Driver {
+        Driver { board: Board::start(&stored).unwrap(), page: stored, stored }
+    }
+
+    /// Cuts the power: what is left is the stored page.
+    fn cut(self) -> Driver {
+        Driver::start(self.stored)
+    }
+
+    /// Feeds one whole message, stores the page where it was written, and gives the errors of the reply's rows.
+    fn errors(&mut self, port: u8, message: &[u8]) -> Vec<u8> {
+        let before = self.page;
+        let mut room = [0; Board::REPLY];
+        let outcome = self.board.feed(port, message, &mut room, &mut self.page).unwrap();
+        let Outcome::Reported { taken, skipped: 0, saved, reply } = outcome else { panic!("{outcome:?}") };
+        assert_eq!(taken, message.len());
+        if saved {
+            self.stored = self.page;
+        } else {
+            assert_eq!(self.page, before);
+        }
+        read_rows(&room[..reply]).unwrap().map(|row| row.error).collect()
+    }
+
+    fn last_number(&self) -> Option<u32> {
+        Values::read(&self.page).unwrap().last_number
+    }
+}
+
+/// A message of this type and payload.
+fn message(kind: u8, payload: &[u8]) -> Vec<u8> {
+    let mut room = [0; 261];
+    let length = write_message(kind, payload, &mut room).unwrap();
+    room[..length].to_vec()
+}
+
+/// A command with this number.
+fn numbered(number: u32, code: u8, function: u8, value: u32) -> Vec<u8> {
+    let mut room = [0; 32];
+    let length = write_numbered(number, code, function, value, &mut room).unwrap();
+    room[..length].to_vec()
+}
+
+/// One day's commands, numbered from 1 on: a use, a save, three settings used and one of them saved, one that fails in
+/// its field, one that fails as a whole, a load, the factory value, a report and a Ping. The errors are those of the
+/// day, of its replay without numbers on port 0, and on port 1.
+fn day() -> Vec<(Vec<u8>, [Vec<u8>; 3])> {
+    let three = hex("00000003 02 010501000E1000 07020101 08020107 080103");
+    let same = |errors: &[u8]| [errors.to_vec(), errors.to_vec(), errors.to_vec()];
+    let refused = |errors: &[u8]| [errors.to_vec(), vec![5; errors.len()], errors.to_vec()];
+    vec![
+        (numbered(1, code::ACCELEROMETER, function::USE, 4), refused(&[0])),
+        (numbered(2, code::ACCELEROMETER, function::SAVE, 0), refused(&[0])),
+        (message(NUMBERED, &three), refused(&[0, 0, 0, 0])),
+        (message(NUMBERED, &hex("00000004 02 08020108")), refused(&[4])),
+        (message(NUMBERED, &hex("00000005 03 08020101")), same(&[2])),
+        (numbered(6, code::ACCELEROMETER, function::LOAD, 0), refused(&[0])),
+        (numbered(7, code::BAUD, function::FACTORY, 0), refused(&[0])),
+        (numbered(8, code::GYROSCOPE, function::REPORT, 0), same(&[0])),
+        (numbered(9, code::PING, 0, 0), same(&[0])),
+    ]
+}
+
+/// A board that has had that day, on a page that was blank, and then no power.
+fn the_day_after() -> Driver {
+    let mut driver = Driver::start(BLANK);
+    for (command, [errors, ..]) in day() {
+        assert_eq!(driver.errors(0, &command), errors);
+    }
+    assert_eq!(driver.board.settings, Settings { baud: 115200, accelerometer: 4, gyroscope: 7 });
+    assert_eq!(driver.last_number(), Some(9));
+    let driver = driver.cut();
+    assert_eq!(driver.page[..16], hex("03 070A01 080B01 700C04 04 07 00000009"));
+    driver
+}
+
+/// Yesterday's commands, sent again after a power cut, are not taken as new: each is refused with 5, on either port, and
+/// settings and page are as they were.
+#[test]
+fn replay() {
+    let mut driver = the_day_after();
+    let (settings, page) = (driver.board.settings, driver.page);
+    for port in [0, 1] {
+        for (command, _) in day() {
+            assert_eq!(driver.errors(port, &command), [5]);
+            assert_eq!((driver.board.settings, driver.page, driver.stored), (settings, page, page));
+        }
+        driver = driver.cut();
+    }
+    // The next number is taken.
+    assert_eq!(driver.errors(0, &numbered(10, code::GYROSCOPE, function::USE, 1)), [0]);
+    assert_eq!(driver.board.settings, Settings { gyroscope: 1, ..settings });
+    assert_eq!(driver.last_number(), Some(10));
+}
+
+/// The same commands without their numbers: on port 0 functions 1, 3, 4 and 5 are refused with 5, and Ping and reports go
+/// on; on port 1 all are taken, and the number stays.
+#[test]
+fn replay_without_numbers() {
+    let mut driver = the_day_after();
+    let (settings, page) = (driver.board.settings, driver.page);
+    let without = |command: &[u8]| message(command[8], &command[9..command.len() - 2]);
+    for (command, [_, refused, _]) in day() {
+        assert_eq!(driver.errors(0, &without(&command)), refused);
+        assert_eq!((driver.board.settings, driver.page), (settings, page));
+    }
+    let other = [(code::ACCELEROMETER, 2), (code::GYROSCOPE, 3)];
+    assert_eq!(driver.errors(1, &command(function::USE, &other)), [0, 0]);
+    assert_eq!(driver.errors(1, &command(function::SAVE, &other)), [0, 0]);
+    assert_eq!(driver.page[..16], hex("03 070A01 080B01 700C04 02 03 00000009"));
+    for (command, [_, _, taken]) in day() {
+        assert_eq!(driver.errors(1, &without(&command)), taken);
+    }
+    assert_eq!((driver.board.settings, driver.last_number()), (settings, Some(9)));
+    assert_eq!(driver.cut().board.settings, settings);
+}
+
+/// What the header and [`Board::feed`] warn of: a page that is stored too late lets a number be accepted again.
+#[test]
+fn page_stored_too_late() {
+    let mut driver = Driver::start(BLANK);
+    let command = numbered(1, code::ACCELEROMETER, function::USE, 4);
+    assert_eq!(driver.errors(0, &command), [0]);
+    driver.stored = BLANK;
+    let mut driver = driver.cut();
+    assert_eq!(driver.errors(0, &command), [0]);
+}
+
+/// Numbers at the ends, on a page of each: larger is fresh, equal and smaller are stale. After 4294967295 nothing is.
+#[test]
+fn fresh_numbers() {
+    let ends = [0, 1, 0xFF, 0x100, 0xFFFF, 0x1_0000, 0x7FFF_FFFF, 0x8000_0000, 0xFFFF_FFFE, 0xFFFF_FFFF];
+    for number in ends {
+        let ping = numbered(number, code::PING, 0, 0);
+        assert_eq!(Driver::start(BLANK).errors(0, &ping), [0]);
+        for last in ends {
+            let mut page = BLANK;
+            Values { last_number: Some(last), ..Values::default() }.write(&mut page).unwrap();
+            let mut driver = Driver::start(page);
+            let fresh = number > last;
+            assert_eq!(driver.errors(1, &ping), [if fresh { 0 } else { 5 }]);
+            assert_eq!(driver.last_number(), Some(if fresh { number } else { last }));
+        }
+    }
+}
+
+/// The one row of a numbered command whose fields are not reached, and whether its number was spent.
+#[test]
+fn numbered_commands_refused() {
+    for (payload, echo, error, spent) in [
+        ("", 0, 4, false),
+        ("00000065", 0, 4, false),
+        ("00000064 02", 0, 5, false),
+        ("00000064 03 07", 7, 5, false),
+        ("00000065 03 08020101", 8, 2, true),
+        ("00000065 7C 00000066010200", 0, 2, true),
+        ("00000065 02", 0, 3, true),
+        ("00000065 02 63", 0x63, 4, true),
+        ("00000065 02 6300", 0x63, 3, true),
+        ("00000065 02 08020108", 8, 4, true),
+    ] {
+        let mut page = BLANK;
+        Values { last_number: Some(100), ..Values::default() }.write(&mut page).unwrap();
+        let mut board = Board::start(&page).unwrap();
+        let mut room = [0; Board::REPLY];
+        let mut bytes = message(NUMBERED, &hex(payload));
+        let outcome = board.feed(0, &bytes, &mut room, &mut page).unwrap();
+        assert_eq!(outcome, Outcome::Reported { taken: bytes.len(), skipped: 0, saved: spent, reply: 10 }, "{payload}");
+        let row = Reply { kind: NUMBERED, echo, error, value: None };
+        assert_eq!(read_reply(&room[..10], 0), Ok(row), "{payload}");
+        assert_eq!(Values::read(&page).unwrap().last_number, Some(if spent { 101 } else { 100 }));
+
+        // Damaged, it spends nothing, and the echo is its first payload byte.
+        let end = bytes.len() - 1;
+        bytes[end] ^= 1;
+        let mut page = BLANK;
+        let outcome = Board::start(&page).unwrap().feed(0, &bytes, &mut room, &mut page).unwrap();
+        assert_eq!(outcome, Outcome::Reported { taken: bytes.len(), skipped: 1, saved: false, reply: 10 });
+        assert_eq!((room[6..8].to_vec(), page), (vec![0, 1], BLANK));
+    }
+}
+
 /// A refused feed leaves board, room and page as they were.
 #[test]
 fn refused_feeds() {
@@ -236,7 +427,11 @@ fn refusals_of_the_other_calls() {
     assert_eq!(write_message(0xA2, &[0; 256], &mut room), Err(Refusal::Payload));
     assert_eq!(write_command(code::PING, 0, 0, &mut room[..7]), Err(Refusal::Room));
     assert_eq!(write_command(code::BAUD, function::USE, 57600, &mut room), Err(Refusal::Command));
+    assert_eq!(write_numbered(1, code::BAUD, function::USE, 57600, &mut []), Err(Refusal::Command));
+    assert_eq!(write_numbered(1, code::PING, 0, 0, &mut room[..12]), Err(Refusal::Room));
+    assert_eq!(write_numbered(1, code::PING, 0, 0, &mut room[..13]), Ok(13));
     assert_eq!(append_field(0x01, code::BAUD, function::REPORT, 0, 0, &mut room), Err(Refusal::Command));
+    assert_eq!(append_field(NUMBERED, code::BAUD, function::REPORT, 0, 5, &mut room), Err(Refusal::Command));
     assert_eq!(append_field(0x02, code::BAUD, function::REPORT, 0, 298, &mut room), Err(Refusal::Room));
     assert_eq!(append_field(0x02, code::BAUD, function::REPORT, 0, usize::MAX, &mut room), Err(Refusal::Room));
     assert_eq!(write_data([0.0; 3], [0.0; 3], &mut room[..33]), Err(Refusal::Room));
@@ -263,7 +458,8 @@ fn refused_pages() {
         assert_eq!(Values::read(&vec![0xFF; length]), Err(Refusal::PageLength));
     }
     // The saved page is tested before the factory page, both before the room, and the room is left alone.
-    let cases: [(&[u8], &[u8], usize, Result<usize, Refusal>); 7] = [
+    type Case<'a> = (&'a [u8], &'a [u8], usize, Result<usize, Refusal>);
+    let cases: [Case; 7] = [
         (&BLANK[1..], &unsound, 0, Err(Refusal::PageLength)),
         (&unsound, &BLANK[1..], 0, Err(Refusal::Page)),
         (&BLANK, &BLANK[1..], 0, Err(Refusal::PageLength)),

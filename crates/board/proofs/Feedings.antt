@@ -1,7 +1,6 @@
 -- Demand 1: any feed of any board, and lists of feeds from any sound board.
 use mathlib.Core.Bool.{Bool, true, false, _||_, not}
 use mathlib.Core.List.{List, [], _∷_, _++_}
-use mathlib.Core.Option.{none, some}
 use mathlib.Core.Path.{_≡_, refl, sym, ap, subst, _∙_}
 use Prim.Native.Nat.{ℕ, zero, suc, _+_, _-_, _≤_, _<_}
 use native.Mathlib.Omega.{arith}
@@ -24,10 +23,12 @@ use Rattle.page.specs.Page.{pageSize}
 use Rattle.page.specs.Sound.{sound, pageNumber}
 use Rattle.page.proofs.Pages.{sound-passes}
 use Rattle.command.specs.declared.settings.Settings.{Settings}
-use Rattle.command.specs.Outcome.{Received, receivedOf, messageOutcome}
+use Rattle.command.specs.Outcome.{Received, receivedOf}
+use Rattle.command.specs.Handle.{messageOutcome}
 use Rattle.command.specs.Answer.{pageAccess, settingsFrom, replyRoom, answering}
 use Rattle.command.specs.Effects.{settingsAllowed}
-use Rattle.command.specs.Theorems.{Saved, savesOn, replyTo}
+use Rattle.command.specs.Theorems.{replyTo}
+use Rattle.command.specs.Puts.{Put, putsOn, isEmpty, messagePuts}
 use Rattle.command.proofs.Keeps.{factory-allowed}
 use Rattle.command.proofs.Pages.{loaded-stored, reply-whole, answer-keeps}
 use Rattle.command.proofs.Separate.{longest-reply}
@@ -100,10 +101,16 @@ module _ (port : ℕ) (held : List ℕ) (w : Settings) (chunk room page : List �
       go (Found k n good) = omega arith
 
   -- What it does to the settings and the page.
+  abbrev puts : ℕ → Bool → List Put
+  puts k good = messagePuts port (record { settings = w; page = page }) (receivedOf good (drop k (held ++ chunk)))
+
   record StepSaved (after : List ℕ) : Type 0 where
-    saves : List Saved
-    some-saves : 1 ≤ length saves
-    written : after ≡ savesOn page saves
+    before : ℕ
+    size : ℕ
+    good : Bool
+    found : seek front (held ++ chunk) ≡ Found before size good
+    some-puts : 1 ≤ length (puts before good)
+    written : after ≡ putsOn page (puts before good)
 
   record StepKeeps (s : PortStep) : Type 0 where
     settings-allowed : settingsAllowed (s .settings) ≡ true
@@ -111,19 +118,31 @@ module _ (port : ℕ) (held : List ℕ) (w : Settings) (chunk room page : List �
     unsaved : s .saved ≡ false → s .page ≡ page
     saved : s .saved ≡ true → StepSaved (s .page)
 
-  step-keeps : sound page ≡ true → settingsAllowed w ≡ true → StepKeeps (stepOf port held w chunk room page)
+  -- The mark says whether anything is put in.
+  unmarked-none : (ps : List Put) (saved : Bool) → saved ≡ not (isEmpty ps) → saved ≡ false → ps ≡ []
+  unmarked-none [] saved m e = refl
+  unmarked-none (p ∷ ps) saved m e = differ (sym m ∙ e)
+
+  marked-some : (ps : List Put) (saved : Bool) → saved ≡ not (isEmpty ps) → saved ≡ true → 1 ≤ length ps
+  marked-some [] saved m e = differ (sym e ∙ m)
+  marked-some (p ∷ ps) saved m e = omega arith
+
+  step-keeps : sound page ≡ true → settingsAllowed w ≡ true → replyRoom ≤ length room → StepKeeps (stepOf port held w chunk room page)
   unfolding stepOf
-  step-keeps h a = go (seek front (held ++ chunk))
+  step-keeps h a large = go (seek front (held ++ chunk)) refl
     where
-      go : (q : Sought) → StepKeeps (stepOn port q held w chunk room page)
-      go (Starved k) = record { settings-allowed = a; page-kept-sound = h; unsaved = λ e. refl; saved = λ e. differ (sym e) }
-      go (Found k n good) =
-          let t = answer-keeps port (receivedOf good (drop k (held ++ chunk))) w room page h a in
+      go : (q : Sought) → seek front (held ++ chunk) ≡ q → StepKeeps (stepOn port q held w chunk room page)
+      go (Starved k) f = record { settings-allowed = a; page-kept-sound = h; unsaved = λ e. refl; saved = λ e. differ (sym e) }
+      go (Found k n good) f =
+          let m : Received = receivedOf good (drop k (held ++ chunk)) in
+          let t = answer-keeps port m w room page h a in
+          let saved : Bool = answering port m w room page .answer .saved in
           record {
             settings-allowed = t .settings-allowed;
             page-kept-sound = t .page-sound;
-            unsaved = λ e. t .saved .written ∙ ap (savesOn page) (t .saved .no-save e);
-            saved = λ e. record { saves = t .saved .saves; some-saves = t .saved .at-least-one e; written = t .saved .written };
+            unsaved = λ e. t .page-after large ∙ ap (putsOn page) (unmarked-none (puts k good) saved (t .mark large) e);
+            saved = λ e.
+                record { before = k; size = n; good = good; found = f; some-puts = marked-some (puts k good) saved (t .mark large) e; written = t .page-after large };
           }
 
   -- What it reports: a whole reply, or nothing; and how its counts add up.
@@ -151,8 +170,8 @@ module _ (port : ℕ) (held : List ℕ) (w : Settings) (chunk room page : List �
   answer-reply : (m : Received) → replyRoom ≤ length room → StepReply (answering port m w room page .room)
   answer-reply m large =
       let x : Kept = record { settings = w; page = page } in
-      let rows : List ℕ = messageOutcome (pageAccess port) x m .rows in
-      let most = longest-reply .most (List ℕ) (pageAccess port) x m in
+      let rows : List ℕ = messageOutcome pageAccess port x m .rows in
+      let most = longest-reply .most (List ℕ) pageAccess port x m in
       let few : length rows ≤ 255 = omega (arith, most, message-length (m .kind) rows) in
       record {
         reply = replyTo port m w page;
@@ -205,11 +224,11 @@ module _ (port : ℕ) (held : List ℕ) (w : Settings) (chunk room page : List �
 -- ---- a feed
 
 -- What passing all tests says.
-record Passed (port : ℕ) (b : Board) (room page : List ℕ) : Type 0 where
-  few-ports : port ≤ 1
-  sound-board : unsound (b .first .held) (b .second .held) (b .settings) ≡ false
-  large-room : replyRoom ≤ length room
-  passing-page : pageNumber page ≡ 0
+pub record Passed (port : ℕ) (b : Board) (room page : List ℕ) : Type 0 where
+  pub few-ports : port ≤ 1
+  pub sound-board : unsound (b .first .held) (b .second .held) (b .settings) ≡ false
+  pub large-room : replyRoom ≤ length room
+  pub passing-page : pageNumber page ≡ 0
 
 pub passed-parts : (port first second : ℕ) (w : Settings) (room page : List ℕ) → feedNumber port first second w room page ≡ 0 → SoundParts first second w
 unfolding feedNumber
@@ -218,7 +237,7 @@ passed-parts port first second w room page e =
     let u : (unsound first second w ≡ false) × _ = passes (unsound first second w) 16 _ (t .1) in
     parts first second w (u .0)
 
-passed : (port : ℕ) (b : Board) (room page : List ℕ) → feedNumber port (b .first .held) (b .second .held) (b .settings) room page ≡ 0 → Passed port b room page
+pub passed : (port : ℕ) (b : Board) (room page : List ℕ) → feedNumber port (b .first .held) (b .second .held) (b .settings) room page ≡ 0 → Passed port b room page
 unfolding feedNumber
 passed port b room page e =
     let t : (ltb 1 port ≡ false) × _ = passes (ltb 1 port) 15 _ e in
@@ -248,7 +267,7 @@ with-held : (port : ℕ) (b : Board) (bs : List ℕ) (w : Settings) → heldByte
 with-held zero b bs w = holding bs
 with-held (suc q) b bs w = holding bs
 
-with-settings : (port : ℕ) (b : Board) (p : Port) (w : Settings) → withPort port b p w .settings ≡ w
+pub with-settings : (port : ℕ) (b : Board) (p : Port) (w : Settings) → withPort port b p w .settings ≡ w
 with-settings zero b p w = refl
 with-settings (suc q) b p w = refl
 
@@ -301,7 +320,7 @@ module _ (port : ℕ) (b : Board) (chunk room page : List ℕ) where
   accepted-keeps p =
       let s = parts (b .first .held) (b .second .held) (b .settings) (p .sound-board) in
       let h : sound page ≡ true = page-sound page (p .passing-page) in
-      let k = step-keeps port (heldBytes (portOf port b)) (b .settings) chunk room page h (s .allowed-settings) in
+      let k = step-keeps port (heldBytes (portOf port b)) (b .settings) chunk room page h (s .allowed-settings) (p .large-room) in
       let t = step-tells port (heldBytes (portOf port b)) (b .settings) chunk room page (p .large-room) in
       let few = step-few port (heldBytes (portOf port b)) (b .settings) chunk room page (port-few port b s) in
       let n = step-number port (heldBytes (portOf port b)) (b .settings) chunk room page in
@@ -356,7 +375,7 @@ feeds-keep port b chunk room page =
       reported = λ e. (let r = k .reported e in record { reply = r .reply; whole = r .whole; fits = r .fits; room-after = r .room-after });
       used-up = λ e. record { all-taken = k .all-taken e; no-save = k .no-save e; room-same = k .room-same e; page-same = k .page-same e; settings-same = k .settings-same e };
       sum = k .sum;
-      saved = λ e. (let s = k .saved e in record { saves = s .saves; at-least-one = s .some-saves; written = s .written });
+      saved = λ e. (let s = k .saved e in record { before = s .before; size = s .size; good = s .good; found = s .found; at-least-one = s .some-puts; written = s .written });
       unsaved = k .unsaved;
       board-sound = k .board-sound;
       page-sound = k .page-stays;

@@ -1,31 +1,32 @@
 -- Handling on the reckoning's values and on the board's settings and page go together.
-use mathlib.Core.Bool.{true}
+use mathlib.Core.Bool.{Bool, true}
 use mathlib.Core.List.{List}
 use mathlib.Core.Option.{Option, none, some}
 use mathlib.Core.Path.{_≡_, refl, sym, ap, _∙_, fun-ext}
-use Prim.Native.Nat.{ℕ}
+use Prim.Native.Nat.{ℕ, _<_}
 use lib.Dec.{eqb}
 use lib.ListN.{length}
-use borrow.Author.Tests.{eq-eqb}
+use borrow.Author.Tests.{eq-eqb, lt-ltb}
 use Rattle.history.specs.Program.{passing}
 use Rattle.history.specs.Theorems.{Handles}
 use Rattle.page.specs.declared.setting.Setting.{Setting}
 use Rattle.page.specs.declared.setting.Values.{Values}
-use Rattle.page.specs.Settings.{allowed, factoryValue}
-use Rattle.page.specs.Page.{storedIn, withValue, allAllowed, writing, pageSize}
-use Rattle.page.specs.Sound.{sound, savedPage}
+use Rattle.page.specs.Settings.{allowed, factoryValue, Key, valueOf, lastNumber, keyAllowed}
+use Rattle.page.specs.Page.{storedIn, withValue, withKey, allAllowed, writing, pageSize}
+use Rattle.page.specs.Sound.{sound, putPage}
 use Rattle.page.specs.Theorems.{valueOr}
-use Rattle.page.proofs.Pages.{writing-size, read-back, writing-sound}
+use Rattle.page.proofs.Pages.{writing-size, read-back, writing-sound, in-use-kept, put-allowed}
 use Rattle.command.specs.declared.settings.Settings.{Settings}
 use Rattle.command.specs.declared.command.Command.{Command}
 use Rattle.command.specs.Effects.{workingValue, Effect, effectOf, settingsAllowed}
-use Rattle.command.specs.Outcome.{receivedOf, pageAfter, fieldOutcome}
-use Rattle.command.specs.Answer.{loadedFrom, savedOn, pageAccess}
-use Rattle.command.specs.Several.{Alike}
-use Rattle.command.proofs.Separate.{fields-alike}
+use Rattle.command.specs.Outcome.{receivedOf, pageAfter, needsNumber, fieldOutcome}
+use Rattle.command.specs.Handle.{spent}
+use Rattle.command.specs.Answer.{loadedFrom, putOn, savedOn, numberOn, pageAccess}
+use Rattle.command.specs.Several.{Alike, KeepAlike}
+use Rattle.command.proofs.Separate.{messages-alike}
 use Rattle.message.specs.Message.{messageOf}
 use Rattle.command.proofs.Keeps.{value-allowed, keeps-allowed}
-use Rattle.command.proofs.Pages.{loaded-stored, page-changes, put-allowed}
+use Rattle.command.proofs.Pages.{loaded-stored, page-changes}
 use Rattle.board.specs.Handling.{handleOn, Reckoned, Kept, loadedOf, valuesAccess, reckonMessage, handleMessage, keptTests, StoredAs}
 
 -- What is loaded from the writing of values is what those values give.
@@ -36,15 +37,25 @@ pub loaded-allowed : (v : Values) → allAllowed v ≡ true → (s : Setting) �
 loaded-allowed v a s =
     ap (allowed s) (ap (λ (l : Setting → ℕ). l s) (loaded-same v a)) ∙ loaded-stored (writing v) s (writing-sound v a) .value-allowed
 
--- A save leaves the writing of the values that it leaves.
+-- A value put in leaves the writing of the values with it.
+record PutSame (v : Values) (k : Key) (x : ℕ) : Type 0 where
+  page : putOn (writing v) k x ≡ writing (withKey v k x)
+  values-allowed : allAllowed (withKey v k x) ≡ true
+
+put-same : (v : Values) (k : Key) (x : ℕ) → allAllowed v ≡ true → keyAllowed k x ≡ true → PutSame v k x
+unfolding putPage
+put-same v k x a e =
+    record {
+      page = page-changes (writing v) k x (writing-sound v a) e .put-page ∙ ap (λ (u : Values). writing (withKey u k x)) (read-back v a);
+      values-allowed = put-allowed v k x a e;
+    }
+
 after-same : (saves : Option Setting) (w : Settings) (v : Values) → allAllowed v ≡ true → settingsAllowed w ≡ true
     → (pageAfter savedOn saves w (writing v) ≡ writing (pageAfter withValue saves w v)) × (allAllowed (pageAfter withValue saves w v) ≡ true)
-unfolding savedPage
 after-same none w v a s = (refl, a)
-after-same (some t) w v a s = (
-  page-changes (writing v) t (workingValue w t) (writing-sound v a) (value-allowed w t s) .saved-page ∙ ap (λ (u : Values). writing (withValue u t (workingValue w t))) (read-back v a),
-  put-allowed v t (workingValue w t) a (value-allowed w t s),
-)
+after-same (some t) w v a s =
+    let p = put-same v (valueOf t) (workingValue w t) a (in-use-kept t (workingValue w t) (value-allowed w t s)) in
+    (p .page, p .values-allowed)
 
 passes-tests : (x : Reckoned) (y : Kept) → StoredAs x y → keptTests y ≡ passing
 unfolding keptTests
@@ -54,31 +65,58 @@ passes-tests x y r =
     let s : sound (y .page) ≡ true = rw (r .page) (writing-sound (x .page) (r .values-allowed)) in
     rw (a, l, s)
 
--- Both sides of a field, with the page as the writing of the values.
-both-handled : (port : ℕ) (w : Settings) (v : Values) (c : Command) → settingsAllowed w ≡ true → allAllowed v ≡ true
-    → Alike StoredAs (fieldOutcome (valuesAccess port) (record { settings = w; page = v }) c) (fieldOutcome (pageAccess port) (record { settings = w; page = writing v }) c)
+-- ---- with the page as the writing of the values
+
+-- The number is the same on both sides.
+number-same : (v : Values) → allAllowed v ≡ true → numberOn (writing v) ≡ v .number
+number-same v a = ap (λ (u : Values). u .number) (read-back v a)
+
+-- Both sides of a field.
+both-handled : (guarded : Bool) (w : Settings) (v : Values) (c : Command) → settingsAllowed w ≡ true → allAllowed v ≡ true
+    → Alike StoredAs (fieldOutcome valuesAccess guarded (record { settings = w; page = v }) c) (fieldOutcome pageAccess guarded (record { settings = w; page = writing v }) c)
 unfolding fieldOutcome effectOf
-both-handled port w v c a b =
+both-handled guarded w v c a b =
     let l : loadedFrom (writing v) ≡ loadedOf v = sym (loaded-same v b) in
-    let e : Effect = effectOf (loadedOf v) w c in
+    let e : Effect = effectOf (needsNumber valuesAccess guarded v) (loadedOf v) w c in
     let k = after-same (e .saves) w v b a in
-    rw l
+    rw (l, number-same v b)
     (record {
       rows = refl;
       saved = refl;
       next = record {
         settings = refl;
         page = k .0;
-        settings-allowed = keeps-allowed (loadedOf v) w c (loaded-allowed v b) a;
+        settings-allowed = keeps-allowed (needsNumber valuesAccess guarded v) (loadedOf v) w c (loaded-allowed v b) a;
         values-allowed = k .1;
       };
     })
 
-field-handled : (port : ℕ) (x : Reckoned) (y : Kept) (c : Command) → StoredAs x y → Alike StoredAs (fieldOutcome (valuesAccess port) x c) (fieldOutcome (pageAccess port) y c)
-field-handled port x y c r =
-    let e : y ≡ record { settings = x .settings; page = writing (x .page) } =
-    ap (λ (w : Settings). record { settings = w; page = y .page }) (sym (r .settings)) ∙ ap (λ (p : List ℕ). record { settings = x .settings; page = p }) (r .page) in
-    rw e (both-handled port (x .settings) (x .page) c (r .settings-allowed) (r .values-allowed))
+-- ---- the board's settings and page stand for the reckoning's values
+
+stored-is : (x : Reckoned) (y : Kept) → StoredAs x y → y ≡ record { settings = x .settings; page = writing (x .page) }
+stored-is x y r =
+    ap (λ (w : Settings). record { settings = w; page = y .page }) (sym (r .settings)) ∙ ap (λ (p : List ℕ). record { settings = x .settings; page = p }) (r .page)
+
+keep-alike : KeepAlike valuesAccess pageAccess StoredAs
+keep-alike =
+    record {
+      fields = λ guarded x y c r. field guarded x y c r;
+      numbers = λ x y r. sym (ap numberOn (r .page) ∙ number-same (x .page) (r .values-allowed));
+      puts = λ n x y h r. put n x y h r;
+    }
+  where
+    field : (guarded : Bool) (x : Reckoned) (y : Kept) (c : Command) → StoredAs x y → Alike StoredAs (fieldOutcome valuesAccess guarded x c) (fieldOutcome pageAccess guarded y c)
+    field guarded x y c r = rw (stored-is x y r) (both-handled guarded (x .settings) (x .page) c (r .settings-allowed) (r .values-allowed))
+
+    put : (n : ℕ) (x : Reckoned) (y : Kept) → n < 4294967296 → StoredAs x y → StoredAs (spent valuesAccess x n) (spent pageAccess y n)
+    put n x y h r =
+        let p = put-same (x .page) lastNumber n (r .values-allowed) (lt-ltb n 4294967296 h) in
+        record {
+          settings = r .settings;
+          page = ap (λ (q : List ℕ). putOn q lastNumber n) (r .page) ∙ p .page;
+          settings-allowed = r .settings-allowed;
+          values-allowed = p .values-allowed;
+        }
 
 -- And so both sides of a message.
 pub handles : Handles StoredAs reckonMessage keptTests handleMessage
@@ -87,6 +125,6 @@ handles =
     record {
       passes = passes-tests;
       handled = λ port x y m r.
-          (let a = fields-alike Values (List ℕ) (valuesAccess port) (pageAccess port) StoredAs (field-handled port) x y (receivedOf (m .good) (m .bytes)) r in
+          (let a = messages-alike Values (List ℕ) valuesAccess pageAccess StoredAs keep-alike port x y (receivedOf (m .good) (m .bytes)) r in
           record { reply = ap (messageOf (receivedOf (m .good) (m .bytes) .kind)) (a .rows); saved = a .saved; next = a .next });
     }

@@ -2,10 +2,12 @@ pub mod Alone
 pub mod Feedings
 pub mod Follows
 pub mod Handles
+pub mod Histories
 pub mod InPlace
 pub mod Kept
 pub mod Places
 pub mod Reckons
+pub mod Restarts
 pub mod Sampled
 pub mod Starts
 pub mod Steps

@@ -1,4 +1,4 @@
--- Demand 3: from a start on a unfed or sound page, every list of feeds goes as the plain reckoning says.
+-- Demand 3: from a start on a blank or sound page, every list of feeds goes as the plain reckoning says.
 use mathlib.Core.Bool.{Bool, true, false}
 use mathlib.Core.List.{List, [], _∷_}
 use mathlib.Core.Path.{_≡_, refl, sym, ap, _∙_, subst}
@@ -31,30 +31,46 @@ use Rattle.board.specs.Port.{portRoom, heldBytes, portHolding, portOf}
 use Rattle.board.specs.Start.{freshBoard, startOf}
 use Rattle.board.specs.Feed.{Feeding, feedOf}
 use Rattle.board.specs.Handling.{Reckoned, Kept, settingsOf, reckonMessage, handleMessage, keptTests, StoredAs}
-use Rattle.board.specs.Runs.{Call, Calls, callsFrom, callsOn, feedsOf, reckonedOn, Told, AllTold}
+use Rattle.board.specs.Runs.{Call, Calls, callsFrom, callsOn, feedFrom, feedsOf, reckonedOn, Told, AllTold}
 use Rattle.board.specs.Theorems.{AsReckoned, Demand3, OneMore, answersOf, historyOn, heldOn, PortAddsUp, SumLaw, ReportsScanned}
 use Rattle.board.proofs.Handles.{loaded-same, loaded-allowed, handles}
-use Rattle.board.proofs.Steps.{stateOf, Padded, Same, feedFrom, step-same}
+use Rattle.board.proofs.Steps.{stateOf, Padded, Same, step-same}
 
 -- ---- lists of feeds of the board are lists of feeds of the program that keeps only held bytes
 
 abbrev programFrom : State (List ℕ) Kept → List FeedOf → Run (State (List ℕ) Kept)
 programFrom s fs = run (heldStep front handleMessage 260 replyRoom keptTests) s fs
 
-record Followed (cs : List Call) (r : Calls) (q : Run (State (List ℕ) Kept)) : Type 0 where
-  told : AllTold cs (r .feedings) (q .answers)
-  final : q .final ≡ stateOf (r .board) (r .page)
-  padded : Padded (r .board)
+pub record Followed (cs : List Call) (r : Calls) (q : Run (State (List ℕ) Kept)) : Type 0 where
+  pub told : AllTold cs (r .feedings) (q .answers)
+  pub final : q .final ≡ stateOf (r .board) (r .page)
+  pub padded : Padded (r .board)
 
 followed : (cs : List Call) (b : Board) (page : List ℕ) → Padded b → Followed cs (callsFrom b page cs) (programFrom (stateOf b page) (feedsOf cs))
 unfolding callsFrom run
 followed [] b page k = record { told = tt; final = refl; padded = k }
 followed (c ∷ cs) b page k =
     let f : Feeding = feedOf (c .port) b (c .chunk) (c .room) page in
-    let s : Same c f (heldStep front handleMessage 260 replyRoom keptTests (stateOf b page) (feedFrom c)) = step-same b page c k in
+    let s : Same b c f (heldStep front handleMessage 260 replyRoom keptTests (stateOf b page) (feedFrom c)) = step-same b page c k in
     let rest : Followed cs (callsFrom (f .answer .board) (f .page) cs) (programFrom (stateOf (f .answer .board) (f .page)) (feedsOf cs)) =
     followed cs (f .answer .board) (f .page) (s .padded) in
     rw (s .state) (record { told = (s .told, rest .told); final = rest .final; padded = rest .padded })
+
+-- Where that program matches the reckoning, the calls go as reckoned.
+pub followed-reckoned : (cs : List Call) (r : Calls) (p : Run (State (List ℕ) Kept)) (q : Run (State Ledger Reckoned)) → Followed cs r p → Matches StoredAs q p
+    → length (p .final .port0) ≤ portRoom → length (p .final .port1) ≤ portRoom → AsReckoned cs r q
+followed-reckoned cs r p q f m few0 few1 =
+    let h0 : heldBytes (r .board .first) ≡ heldOf (q .final .port0) = ap (λ (s : State (List ℕ) Kept). s .port0) (sym (f .final)) ∙ m .held0 in
+    let h1 : heldBytes (r .board .second) ≡ heldOf (q .final .port1) = ap (λ (s : State (List ℕ) Kept). s .port1) (sym (f .final)) ∙ m .held1 in
+    record {
+      told = subst (λ (answers : List Answer). AllTold cs (r .feedings) answers) (m .answers) (f .told);
+      settings = ap (λ (s : State (List ℕ) Kept). s .values .settings) (sym (f .final)) ∙ sym (m .values .settings);
+      first-port = f .padded .first ∙ ap portHolding h0;
+      second-port = f .padded .second ∙ ap portHolding h1;
+      first-few = rw (m .held0) at few0;
+      second-few = rw (m .held1) at few1;
+      page-written = ap (λ (s : State (List ℕ) Kept). s .values .page) (sym (f .final)) ∙ m .values .page;
+    }
 
 -- ---- the start
 
@@ -62,15 +78,15 @@ settings-same : (v : Values) → allAllowed v ≡ true → settingsFrom (writing
 unfolding settingsFrom
 settings-same v a = rw (← loaded-same v a)
 
-settings-allowed : (v : Values) → allAllowed v ≡ true → settingsAllowed (settingsOf v) ≡ true
+pub settings-allowed : (v : Values) → allAllowed v ≡ true → settingsAllowed (settingsOf v) ≡ true
 unfolding settingsAllowed
 settings-allowed v a = rw (loaded-allowed v a Baud, loaded-allowed v a Accelerometer, loaded-allowed v a Gyroscope)
 
-started : (v : Values) → allAllowed v ≡ true → startOf (writing v) ≡ record { number = 0; board = freshBoard (settingsOf v) }
+pub started : (v : Values) → allAllowed v ≡ true → startOf (writing v) ≡ record { number = 0; board = freshBoard (settingsOf v) }
 unfolding startOf
 started v a = rw (sound-passes (writing v) (writing-sound v a)) (ap (λ (w : Settings). record { number = 0; board = freshBoard w }) (settings-same v a))
 
-fresh-padded : (w : Settings) → Padded (freshBoard w)
+pub fresh-padded : (w : Settings) → Padded (freshBoard w)
 unfolding portHolding
 fresh-padded w = record { first = refl; second = refl }
 
@@ -104,30 +120,8 @@ module _ (v : Values) (cs : List Call) (a : allAllowed v ≡ true) where
       heldFew front mostUndecided replyRoom StoredAs reckonMessage keptTests handleMessage cutting-harmless handles p
       (record { settings = w; page = v }) (record { settings = w; page = writing v }) (feedsOf cs) stored
 
-  record Whole : Type 0 where
-    told : AllTold cs (calls .feedings) (reckoned .answers)
-    settings : calls .board .settings ≡ reckoned .final .values .settings
-    first-port : calls .board .first ≡ portHolding (heldOf (reckoned .final .port0))
-    second-port : calls .board .second ≡ portHolding (heldOf (reckoned .final .port1))
-    first-few : length (heldOf (reckoned .final .port0)) ≤ portRoom
-    second-few : length (heldOf (reckoned .final .port1)) ≤ portRoom
-    page-written : calls .page ≡ writing (reckoned .final .values .page)
-
-  whole : Whole
-  whole =
-      let f : Followed cs calls program = followed cs (freshBoard w) (writing v) (fresh-padded w) in
-      let m = matched in
-      let h0 : heldBytes (calls .board .first) ≡ heldOf (reckoned .final .port0) = ap (λ (s : State (List ℕ) Kept). s .port0) (sym (f .final)) ∙ m .held0 in
-      let h1 : heldBytes (calls .board .second) ≡ heldOf (reckoned .final .port1) = ap (λ (s : State (List ℕ) Kept). s .port1) (sym (f .final)) ∙ m .held1 in
-      record {
-        told = subst (λ (answers : List Answer). AllTold cs (calls .feedings) answers) (m .answers) (f .told);
-        settings = ap (λ (s : State (List ℕ) Kept). s .values .settings) (sym (f .final)) ∙ sym (m .values .settings);
-        first-port = f .padded .first ∙ ap portHolding h0;
-        second-port = f .padded .second ∙ ap portHolding h1;
-        first-few = rw (m .held0) at (few 0);
-        second-few = rw (m .held1) at (few 1);
-        page-written = ap (λ (s : State (List ℕ) Kept). s .values .page) (sym (f .final)) ∙ m .values .page;
-      }
+  whole : AsReckoned cs calls reckoned
+  whole = followed-reckoned cs calls program reckoned (followed cs (freshBoard w) (writing v) (fresh-padded w)) matched (few 0) (few 1)
 
   port-held : (port : ℕ) → keptPort port (program .final) ≡ heldBytes (portOf port (calls .board))
   port-held port =
@@ -152,20 +146,10 @@ reports-scanned v cs port a h =
     let b : startOf (writing v) .board ≡ freshBoard (settingsOf v) = ap (λ (s : Started). s .board) (started v a) in
     rw b (added v cs a port h)
 
-as-reckoned : (v : Values) (cs : List Call) → allAllowed v ≡ true → AsReckoned v cs
+as-reckoned : (v : Values) (cs : List Call) → allAllowed v ≡ true → AsReckoned cs (callsOn v cs) (reckonedOn v cs)
 as-reckoned v cs a =
-    let t = whole v cs a in
     let b : startOf (writing v) .board ≡ freshBoard (settingsOf v) = ap (λ (s : Started). s .board) (started v a) in
-    record {
-      started = ap (λ (s : Started). s .number) (started v a);
-      told = rw b (t .told);
-      settings = rw b (t .settings);
-      first-port = rw b (t .first-port);
-      second-port = rw b (t .second-port);
-      first-few = t .first-few;
-      second-few = t .second-few;
-      page-written = rw b (t .page-written);
-    }
+    rw b (whole v cs a)
 
 -- ---- every page that starting accepts
 
@@ -181,7 +165,13 @@ page-sound page e = go (eqb (length page) pageSize) refl (sound page) refl
 pub board-demand3 : Demand3
 board-demand3 page cs e =
     let i = sound-is-writing page (page-sound page e) in
-    record { values = valuesIn page; allowed-values = i .allowed-values; written = i .written; reckoned = as-reckoned (valuesIn page) cs (i .allowed-values) }
+    record {
+      values = valuesIn page;
+      allowed-values = i .allowed-values;
+      written = i .written;
+      started = ap (λ (p : List ℕ). startOf p .number) (i .written) ∙ ap (λ (s : Started). s .number) (started (valuesIn page) (i .allowed-values));
+      reckoned = as-reckoned (valuesIn page) cs (i .allowed-values);
+    }
 
 pub one-more : OneMore
 unfolding callsFrom

@@ -9,7 +9,7 @@ use borrow.Author.Tests.{ltb-false}
 use Rattle.stream.specs.declared.Sought.{Sought}
 use Rattle.stream.specs.declared.Sought.the-variants.{Starved, Found}
 use Rattle.stream.specs.Seek.{seek, resume, skippedBy}
-use Rattle.history.specs.Feeds.{Feed, Step, State, Turn, refused, settled, accept}
+use Rattle.history.specs.Feeds.{Step, State, Turn, refused, settled, accept}
 use Rattle.history.specs.Feeds.{refuse as refuseStep, portOf as keptPort}
 use Rattle.history.specs.Program.{heldOn, heldFeed, heldStep}
 use Rattle.message.specs.Front.{front}
@@ -21,12 +21,15 @@ use Rattle.command.specs.Outcome.{Received, receivedOf}
 use Rattle.command.specs.Answer.{Answering, answering, replyRoom}
 use Rattle.command.proofs.Pages.{answer-large}
 use Rattle.command.specs.Effects.{settingsAllowed}
+use Rattle.command.specs.Numbered.{carried}
 use Rattle.board.specs.declared.port.Port.{Port}
 use Rattle.board.specs.declared.board.Board.{Board}
 use Rattle.board.specs.Port.{heldBytes, portHolding, portOf, withPort}
 use Rattle.board.specs.Feed.{Feeding, PortStep, leftOf, unsound, feedNumber, refusedFeeding, stepOn, stepOf, feedOn, acceptOn, feedOf}
 use Rattle.board.specs.Handling.{Kept, handleOn, handleMessage, keptTests}
-use Rattle.board.specs.Runs.{Call, Told}
+use Rattle.board.specs.Runs.{Call, feedFrom, Told}
+use Rattle.board.specs.Histories.{carriedAt, acceptedWith, acceptedBy}
+use Rattle.board.specs.Restarts.{carriedBy}
 use Rattle.board.proofs.Follows.{holding, found-visible}
 
 -- The board and its page, as that program keeps them.
@@ -44,10 +47,11 @@ unfolding portHolding
 count-is p e = ap (λ (q : Port). q .held) e
 
 -- What a feed gives, against a step of that program.
-pub record Same (c : Call) (f : Feeding) (s : Step (State (List ℕ) Kept)) : Type 0 where
+pub record Same (b : Board) (c : Call) (f : Feeding) (s : Step (State (List ℕ) Kept)) : Type 0 where
   pub told : Told c f (s .answer)
   pub state : s .state ≡ stateOf (f .answer .board) (f .page)
   pub padded : Padded (f .answer .board)
+  pub accepted : acceptedBy b c f ≡ acceptedWith (s .answer .saved) (carriedBy (s .answer .reports))
 
 holding-padded : (bs : List ℕ) → portHolding bs ≡ portHolding (heldBytes (portHolding bs))
 holding-padded bs = ap portHolding (sym (holding bs))
@@ -87,29 +91,28 @@ module _ (b : Board) (page : List ℕ) (c : Call) (k : Padded b) (large : replyR
       }
 
   accepted : (q : Sought) → seek front (held ++ c .chunk) ≡ q
-      → Same c (feedOn (stepOn (c .port) q held (b .settings) (c .chunk) (c .room) page) (c .port) b) (accept (c .port) (stateOf b page) (turn q))
+      → Same b c (feedOn (stepOn (c .port) q held (b .settings) (c .chunk) (c .room) page) (c .port) b) (accept (c .port) (stateOf b page) (turn q))
   unfolding heldOn handleOn
   accepted (Starved i) e =
       record {
         told = record { number = refl; taken = refl; skipped = refl; saved = refl; room = refl };
         state = state-after (c .port) (turn (Starved i));
         padded = with-padded (c .port) b (drop i (held ++ c .chunk)) (b .settings) k;
+        accepted = refl;
       }
   accepted (Found i n good) e =
       let visible : List ℕ = held ++ take (i + n - length held) (c .chunk) in
       let same : receivedOf good (drop i (held ++ c .chunk)) ≡ receivedOf good (take n (drop i visible)) = found-visible held (c .chunk) i n good e in
       let answer = ap (λ (m : Received). answering (c .port) m (b .settings) (c .room) page) same ∙ answer-large (c .port) (receivedOf good (take n (drop i visible))) (b .settings) (c .room) page large in
-      subst (λ (a : Answering). Same c (feedOn (foundStep i n good a) (c .port) b) (accept (c .port) (stateOf b page) (turn (Found i n good)))) (sym answer)
+      subst (λ (a : Answering). Same b c (feedOn (foundStep i n good a) (c .port) b) (accept (c .port) (stateOf b page) (turn (Found i n good)))) (sym answer)
       (record {
         told = record { number = refl; taken = refl; skipped = refl; saved = refl; room = refl };
         state = state-after (c .port) (turn (Found i n good));
         padded = with-padded (c .port) b (drop (resume i n good) visible) _ k;
+        accepted = ap (acceptedWith (turn (Found i n good) .answer .saved)) (ap (λ (q : Sought). carriedAt q (held ++ c .chunk)) e ∙ ap carried same);
       })
 
 -- ---- any feed
-
-abbrev pub feedFrom : Call → Feed
-feedFrom c = record { port = c .port; chunk = c .chunk; room = length (c .room) }
 
 -- That program's step, where its five tests come out so.
 abbrev stepWith : Bool → Bool → Bool → Bool → Bool → Board → List ℕ → Call → Step (State (List ℕ) Kept)
@@ -127,11 +130,11 @@ port-held zero b page = refl
 port-held (suc p) b page = refl
 
 module _ (b : Board) (page : List ℕ) (c : Call) (k : Padded b) where
-  refused-same : (n : ℕ) → Same c (refusedFeeding n b (c .room) page) (record { answer = refused n; state = stateOf b page })
-  refused-same n = record { told = record { number = refl; taken = refl; skipped = refl; saved = refl; room = refl }; state = refl; padded = k }
+  refused-same : (n : ℕ) → Same b c (refusedFeeding n b (c .room) page) (record { answer = refused n; state = stateOf b page })
+  refused-same n = record { told = record { number = refl; taken = refl; skipped = refl; saved = refl; room = refl }; state = refl; padded = k; accepted = refl }
 
   on-tests : (a u r d e : Bool) → ltb (length (c .room)) replyRoom ≡ r
-      → Same c (acceptOn (refuse a 16 (refuse u 17 (refuse r 18 (refuse d 19 (refuse e 20 0))))) (c .port) b (c .chunk) (c .room) page) (stepWith a u r d e b page c)
+      → Same b c (acceptOn (refuse a 16 (refuse u 17 (refuse r 18 (refuse d 19 (refuse e 20 0))))) (c .port) b (c .chunk) (c .room) page) (stepWith a u r d e b page c)
   unfolding heldFeed stepOf
   on-tests true u r d e h = refused-same 16
   on-tests false true r d e h = refused-same 17
@@ -148,7 +151,7 @@ module _ (b : Board) (page : List ℕ) (c : Call) (k : Padded b) where
       ∙ ap (λ (i : ℕ). ltb 260 (length (heldBytes (b .first))) || ltb 260 i || not (settingsAllowed (b .settings))) (count-is (b .second) (k .second))
 
   -- A feed of the board gives what that program's step gives.
-  pub step-same : Same c (feedOf (c .port) b (c .chunk) (c .room) page) (heldStep front handleMessage 260 replyRoom keptTests (stateOf b page) (feedFrom c))
+  pub step-same : Same b c (feedOf (c .port) b (c .chunk) (c .room) page) (heldStep front handleMessage 260 replyRoom keptTests (stateOf b page) (feedFrom c))
   unfolding feedOf feedNumber pageNumber heldStep keptTests
   step-same =
       rw (unsound-is, port-held (c .port) b page)

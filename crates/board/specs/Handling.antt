@@ -1,5 +1,5 @@
--- Document 01, "The plain reckoning": message n + 1 is handled on the values kept. NowAndBefore it, the same on the board's settings
--- and page.
+-- Document 01, "The plain reckoning": message n + 1 is handled on the values kept. Beside it, the same on the board's settings and
+-- page.
 use mathlib.Core.Bool.{true, not}
 use mathlib.Core.List.{List}
 use mathlib.Core.Path.{_≡_}
@@ -13,22 +13,23 @@ use Rattle.page.specs.declared.setting.Setting.{Setting}
 use Rattle.page.specs.declared.setting.Setting.the-variants.{Baud, Accelerometer, Gyroscope}
 use Rattle.page.specs.declared.setting.Values.{Values}
 use Rattle.page.specs.Settings.{factoryValue}
-use Rattle.page.specs.Page.{storedIn, withValue, allAllowed, writing, pageSize}
+use Rattle.page.specs.Page.{storedIn, withValue, withNumber, allAllowed, writing, pageSize}
 use Rattle.page.specs.Sound.{sound}
 use Rattle.page.specs.Theorems.{valueOr}
 use Rattle.command.specs.declared.settings.Settings.{Settings}
-use Rattle.command.specs.Outcome.{Access, State, Received, receivedOf, replyOf, messageOutcome}
+use Rattle.command.specs.Outcome.{Access, State, Received, receivedOf, replyOf}
+use Rattle.command.specs.Handle.{messageOutcome}
 use Rattle.command.specs.Answer.{pageAccess}
 use Rattle.command.specs.Effects.{settingsAllowed}
 
 -- A message handled, over any keeping of the page's values: its reply, its save mark, and what is left.
-unfoldable pub handleOn : {P : Type 0} → (ℕ → Access P) → ℕ → State P → Message → Outcome (State P)
+unfoldable pub handleOn : {P : Type 0} → Access P → ℕ → State P → Message → Outcome (State P)
 handleOn access port x m =
     let r : Received = receivedOf (m .good) (m .bytes) in
     record {
-      reply = replyOf (r .kind) (messageOutcome (access port) x r);
-      saved = messageOutcome (access port) x r .saved;
-      next = messageOutcome (access port) x r .next;
+      reply = replyOf (r .kind) (messageOutcome access port x r);
+      saved = messageOutcome access port x r .saved;
+      next = messageOutcome access port x r .next;
     }
 
 -- ---- the reckoning
@@ -45,9 +46,9 @@ loadedOf v s = valueOr (storedIn v s) (factoryValue s)
 abbrev pub settingsOf : Values → Settings
 settingsOf v = record { baud = loadedOf v Baud; accelerometer = loadedOf v Accelerometer; gyroscope = loadedOf v Gyroscope }
 
--- A save puts its value in and keeps the others.
-abbrev pub valuesAccess : ℕ → Access Values
-valuesAccess port = record { port = port; loaded = loadedOf; save = withValue }
+-- A save puts its value in, and a fresh number the number; the others are kept.
+abbrev pub valuesAccess : Access Values
+valuesAccess = record { loaded = loadedOf; save = withValue; lastNumber = λ v. v .number; putNumber = withNumber }
 
 -- A message handled on the values kept.
 abbrev pub reckonMessage : ℕ → Reckoned → Message → Outcome Reckoned

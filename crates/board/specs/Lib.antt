@@ -1,8 +1,11 @@
 pub mod Alone
 pub mod AnyBoard
+pub mod Examples
 pub mod Feed
 pub mod Handling
+pub mod Histories
 pub mod Port
+pub mod Restarts
 pub mod Runs
 pub mod Samples
 pub mod Start

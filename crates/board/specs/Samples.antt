@@ -28,10 +28,10 @@ pub record Line : Type 0 where
 
 -- ---- the table
 
-abbrev done : ℕ → ℕ → List ℕ → Out
+abbrev pub done : ℕ → ℕ → List ℕ → Out
 done taken skipped reply = record { number = 0; taken = taken; skipped = skipped; saved = false; reply = reply }
 
-abbrev saves : ℕ → List ℕ → Out
+abbrev pub saves : ℕ → List ℕ → Out
 saves taken reply = record { number = 0; taken = taken; skipped = 0; saved = true; reply = reply }
 
 abbrev ends : ℕ → ℕ → Out
@@ -113,16 +113,19 @@ abbrev replyIn : ℕ → List ℕ → List ℕ
 replyIn zero room = take (lengthOf room + 6) room
 replyIn (suc n) room = []
 
-abbrev outsOf : List Feeding → List Out
-outsOf [] = []
-outsOf (f ∷ fs) =
+abbrev pub outOf : Feeding → Out
+outOf f =
     record {
       number = f .answer .number;
       taken = f .answer .taken;
       skipped = f .answer .skipped;
       saved = f .answer .saved;
       reply = replyIn (f .answer .number) (f .room);
-    } ∷ outsOf fs
+    }
+
+abbrev outsOf : List Feeding → List Out
+outsOf [] = []
+outsOf (f ∷ fs) = outOf f ∷ outsOf fs
 
 abbrev lineFor : List (List ℕ) → Line
 lineFor chunks =

@@ -27,7 +27,7 @@ pub struct Fed {
     // bytes taken from the chunk, and bytes that the scan skipped
     pub taken: usize,
     pub skipped: usize,
-    // whether a save was accepted
+    // the mark of a save: one was accepted, or a fresh number
     pub saved: bool,
     pub board: Board,
 }

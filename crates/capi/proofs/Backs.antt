@@ -20,7 +20,8 @@ use Rattle.sample.proofs.AxesBytes.{Bytes, take-bytes, drop-bytes}
 use Rattle.sample.proofs.Parts.{part-of-message}
 use Rattle.sample.proofs.Patterns.{bits-back}
 use Rattle.sample.proofs.RoundTrips.{written-is-read}
-use Rattle.capi.specs.Flat.{isThere, numberIn, storedFrom, flatAxes, flatOn, flatField}
+use Rattle.page.specs.Page.{isThere}
+use Rattle.capi.specs.Flat.{numberIn, storedFrom, flatAxes, flatOn, flatField}
 use Rattle.capi.specs.Theorems.{fieldReadFrom, FlatBack, Pattern, PatternsBack}
 
 stored-back : (s : Stored) → storedFrom (isThere s) (numberIn s) ≡ s
@@ -85,7 +86,7 @@ unfolding fieldRead
 flat-back =
     record {
       reply-back = λ r. rw (stored-back (r .value));
-      values-back = λ v. rw (stored-back (v .baud), stored-back (v .accelerometer), stored-back (v .gyroscope));
+      values-back = λ v. rw (stored-back (v .baud), stored-back (v .accelerometer), stored-back (v .gyroscope), stored-back (v .number));
       field-back = λ m k h. read-back (readingOf m k .number) (readingOf m k .found) (λ f e.
           rw (part-of-message m k f e .part) (take-bytes (f .field .size) (drop (f .place) m) (drop-bytes (f .place) m h)));
     }

@@ -16,7 +16,8 @@ use Rattle.sample.specs.declared.reader.FieldRead.{FieldRead}
 use Rattle.sample.specs.Axes.{bitsOf}
 use Rattle.capi.specs.declared.flat.FlatField.{FlatField}
 use Rattle.capi.specs.declared.flat.FlatValues.{FlatValues}
-use Rattle.capi.specs.Flat.{isThere, numberIn, storedFrom, flatReply, flatValues, valuesFrom, flatPageOn, flatPage, firstNumber, pagesNumber, flatAxes, flatField}
+use Rattle.page.specs.Page.{isThere}
+use Rattle.capi.specs.Flat.{numberIn, storedFrom, flatReply, flatValues, valuesFrom, flatPageOn, flatPage, firstNumber, pagesNumber, flatAxes, flatField}
 
 -- ---- values that may be absent
 
@@ -27,16 +28,26 @@ pub reply-flat : (r s : Reply) → r ≡ s → (b : Bool) → b ≡ isThere (r .
     → record { number = r .number; kind = r .kind; echo = r .echo; error = r .error; «has_value» = b; value = x } ≡ flatReply s
 reply-flat r s e b p x q = rw (p, q) (ap flatReply e)
 
-pub values-flat : (v w : Values) → v ≡ w → (b₁ b₂ b₃ : Bool) (x₁ x₂ x₃ : ℕ)
+pub values-flat : (v w : Values) → v ≡ w → (b₁ b₂ b₃ b₄ : Bool) (x₁ x₂ x₃ x₄ : ℕ)
     → b₁ ≡ isThere (v .baud) → x₁ ≡ numberIn (v .baud) → b₂ ≡ isThere (v .accelerometer) → x₂ ≡ numberIn (v .accelerometer)
-    → b₃ ≡ isThere (v .gyroscope) → x₃ ≡ numberIn (v .gyroscope)
-    → record { «has_baud» = b₁; baud = x₁; «has_accelerometer» = b₂; accelerometer = x₂; «has_gyroscope» = b₃; gyroscope = x₃ } ≡ flatValues w
-values-flat v w e b₁ b₂ b₃ x₁ x₂ x₃ p₁ q₁ p₂ q₂ p₃ q₃ = rw (p₁, q₁, p₂, q₂, p₃, q₃) (ap flatValues e)
+    → b₃ ≡ isThere (v .gyroscope) → x₃ ≡ numberIn (v .gyroscope) → b₄ ≡ isThere (v .number) → x₄ ≡ numberIn (v .number)
+    → record {
+      «has_baud» = b₁;
+      baud = x₁;
+      «has_accelerometer» = b₂;
+      accelerometer = x₂;
+      «has_gyroscope» = b₃;
+      gyroscope = x₃;
+      «has_last_number» = b₄;
+      «last_number» = x₄;
+    } ≡ flatValues w
+values-flat v w e b₁ b₂ b₃ b₄ x₁ x₂ x₃ x₄ p₁ q₁ p₂ q₂ p₃ q₃ p₄ q₄ = rw (p₁, q₁, p₂, q₂, p₃, q₃, p₄, q₄) (ap flatValues e)
 
-pub values-made : (f : FlatValues) (b a g : Stored) → b ≡ storedFrom (f .«has_baud») (f .baud)
+pub values-made : (f : FlatValues) (b a g n : Stored) → b ≡ storedFrom (f .«has_baud») (f .baud)
     → a ≡ storedFrom (f .«has_accelerometer») (f .accelerometer) → g ≡ storedFrom (f .«has_gyroscope») (f .gyroscope)
-    → record { baud = b; accelerometer = a; gyroscope = g } ≡ valuesFrom f
-values-made f b a g p q r = rw (p, q, r)
+    → n ≡ storedFrom (f .«has_last_number») (f .«last_number»)
+    → record { baud = b; accelerometer = a; gyroscope = g; number = n } ≡ valuesFrom f
+values-made f b a g n p q r t = rw (p, q, r, t)
 
 pub page-made : (v : Values) (f : FlatValues) → v ≡ valuesFrom f → (page : List ℕ) (w : PageWriting) → w ≡ pageWriting v page
     → w ≡ pageWriting (valuesFrom f) page

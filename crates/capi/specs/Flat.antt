@@ -6,7 +6,7 @@ use Rattle.message.specs.Write.{Writing, refusedWriting, writingOf}
 use Rattle.page.specs.declared.setting.Stored.{Stored}
 use Rattle.page.specs.declared.setting.Stored.the-variants.{Absent, Value}
 use Rattle.page.specs.declared.setting.Values.{Values}
-use Rattle.page.specs.Page.{noValues}
+use Rattle.page.specs.Page.{isThere, noValues}
 use Rattle.page.specs.Lookup.{valuesIn}
 use Rattle.page.specs.Sound.{pageNumber}
 use Rattle.client.specs.declared.reader.Reply.{Reply}
@@ -21,10 +21,6 @@ use Rattle.capi.specs.declared.flat.FlatValues.{FlatValues}
 use Rattle.capi.specs.declared.flat.FlatPage.{FlatPage}
 
 -- ---- a value that may be absent: whether it is there, and the value or 0
-
-abbrev pub isThere : Stored → Bool
-isThere Absent = false
-isThere (Value x) = true
 
 abbrev pub numberIn : Stored → ℕ
 numberIn Absent = 0
@@ -57,6 +53,8 @@ flatValues v =
       accelerometer = numberIn (v .accelerometer);
       «has_gyroscope» = isThere (v .gyroscope);
       gyroscope = numberIn (v .gyroscope);
+      «has_last_number» = isThere (v .number);
+      «last_number» = numberIn (v .number);
     }
 
 abbrev pub valuesFrom : FlatValues → Values
@@ -65,6 +63,7 @@ valuesFrom f =
       baud = storedFrom (f .«has_baud») (f .baud);
       accelerometer = storedFrom (f .«has_accelerometer») (f .accelerometer);
       gyroscope = storedFrom (f .«has_gyroscope») (f .gyroscope);
+      number = storedFrom (f .«has_last_number») (f .«last_number»);
     }
 
 -- What reading a page answers: the values where it is blank or sound. With 19 or 20 no value is there.

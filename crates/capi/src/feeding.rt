@@ -18,7 +18,7 @@ pub extern "C" fn ketphiroj_start(page: &[u8]) -> Started
 
 // Feeds a chunk to port 0 or 1, without a copy of the board: `bytes` are the 260 bytes of the named port, written in place,
 // `first` and `second` the held counts of ports 0 and 1. Number 0: a message was answered, its reply stands at the front of
-// `room`, and an accepted save has written the page; the rest of the chunk, behind the bytes taken, is to be fed again. Number
+// `room`, and an accepted save or a fresh number has written the page; the rest of the chunk, behind the bytes taken, is to be fed again. Number
 // 1: the whole chunk was taken, and there is nothing more to report. Nothing is written to the room or the page then. The
 // answer has the named port's held count and the settings afterwards. A refusal (16 to 20) writes nothing and answers those
 // given; an array that is not 260 bytes gives 17.

@@ -1,6 +1,7 @@
 // Answers with enums in them, as structs of numbers. specs/Flat.antt says how each stands for its answer.
 ghost use mathlib.Core.Path.{_≡_};
-ghost use Rattle.capi.specs.Flat.{isThere, numberIn, storedFrom};
+ghost use Rattle.page.specs.Page.{isThere};
+ghost use Rattle.capi.specs.Flat.{numberIn, storedFrom};
 use page::Stored;
 
 // A row of a reply as read.
@@ -41,6 +42,9 @@ pub struct FlatValues {
     pub accelerometer: u32,
     pub has_gyroscope: bool,
     pub gyroscope: u32,
+    // the last number accepted
+    pub has_last_number: bool,
+    pub last_number: u32,
 }
 
 // What reading a page answers.

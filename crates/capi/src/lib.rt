@@ -19,6 +19,7 @@ pub use messages::ketphiroj_check_message;
 pub use messages::ketphiroj_read_reply;
 pub use messages::ketphiroj_write_command;
 pub use messages::ketphiroj_write_message;
+pub use messages::ketphiroj_write_numbered;
 pub use pages::ketphiroj_check_page;
 pub use pages::ketphiroj_copy_body;
 pub use pages::ketphiroj_factory_page;

@@ -30,6 +30,7 @@ fn flat_values(page: &[u8]) -> FlatValues
     let baud = values.baud;
     let accelerometer = values.accelerometer;
     let gyroscope = values.gyroscope;
+    let number = values.number;
     FlatValues {
         has_baud: is_there(baud),
         baud: number_in(baud),
@@ -37,6 +38,8 @@ fn flat_values(page: &[u8]) -> FlatValues
         accelerometer: number_in(accelerometer),
         has_gyroscope: is_there(gyroscope),
         gyroscope: number_in(gyroscope),
+        has_last_number: is_there(number),
+        last_number: number_in(number),
     }
 }
 
@@ -50,6 +53,8 @@ fn no_values() -> FlatValues
         accelerometer: 0,
         has_gyroscope: false,
         gyroscope: 0,
+        has_last_number: false,
+        last_number: 0,
     }
 }
 
@@ -74,10 +79,12 @@ fn values_from(flat: FlatValues) -> Values
     let baud = stored_from(flat.has_baud, flat.baud);
     let accelerometer = stored_from(flat.has_accelerometer, flat.accelerometer);
     let gyroscope = stored_from(flat.has_gyroscope, flat.gyroscope);
+    let number = stored_from(flat.has_last_number, flat.last_number);
     Values {
         baud,
         accelerometer,
         gyroscope,
+        number,
     }
 }
 

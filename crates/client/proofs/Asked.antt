@@ -29,10 +29,10 @@ use Rattle.client.proofs.Commands.{about-back, subject-ping, subject-ab
 
 -- ---- a function of a setting
 
--- A command without error, and its effect.
+-- A command without error where no number is needed, and its effect.
 pub record Does (c : Command) (e : (Setting → ℕ) → Settings → Effect) : Type 0 where
-  pub no-error : fieldError c ≡ 0
-  pub effect : (loaded : Setting → ℕ) (w : Settings) → effectOf loaded w c ≡ e loaded w
+  pub no-error : fieldError false c ≡ 0
+  pub effect : (loaded : Setting → ℕ) (w : Settings) → effectOf false loaded w c ≡ e loaded w
 
 -- Function 1 with the bytes of an allowed value.
 baud-used : (a b c d v : ℕ) → word a b c d ≡ v → allowed Baud v ≡ true
@@ -182,7 +182,7 @@ asked-right kind a h = go (askedSubject kind a) refl h
     go Unknown e h = differ (sym h)
 
 module _ {P : Type 0} (access : Access P) (kind : ℕ) where
-  pub field-obeyed : (x : State P) (a : Asked) → askedRight kind a ≡ true → fieldOutcome access x (commandOf kind (fieldAs kind a)) ≡ askedOutcome access kind x a
+  pub field-obeyed : (x : State P) (a : Asked) → askedRight kind a ≡ true → fieldOutcome access false x (commandOf kind (fieldAs kind a)) ≡ askedOutcome access kind x a
   unfolding fieldOutcome effectOf
   field-obeyed x a h =
       let r = asked-right kind a h in

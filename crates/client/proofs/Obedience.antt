@@ -1,5 +1,5 @@
 -- What the command writer writes is obeyed, and fields that are appended are a payload of it.
-use Prim.Native.Nat.{ℕ, _+_, _*_, _≤_}
+use Prim.Native.Nat.{ℕ, _+_, _*_, _≤_, _<_}
 use native.Mathlib.Omega.{arith}
 use mathlib.Core.Path.{_≡_, refl, ap, sym, _∙_}
 use mathlib.Core.Bool.{Bool, true, false}
@@ -10,8 +10,11 @@ use lib.ListN.{length, take, length-append}
 use borrow.Author.Tests.{ne-eqb, le-ltb}
 use Rattle.page.specs.declared.setting.Coded.{Coded}
 use Rattle.page.specs.declared.setting.Coded.the-variants.{Setting as Known, Nothing}
+use Rattle.page.specs.declared.setting.Stored.{Stored}
 use Rattle.page.specs.Settings.{settingOf}
+use Rattle.word.proofs.Numbers.{word-back}
 use Rattle.message.specs.Fields.{Field, rowBytes, SizesRight, fieldsOf}
+use Rattle.message.specs.Message.{messageOf}
 use Rattle.message.specs.Theorems.{RoundTrip}
 use Rattle.message.specs.Write.{Writing, putAt}
 use Rattle.message.proofs.FieldRows.{fields-back}
@@ -19,11 +22,14 @@ use Rattle.message.proofs.RoundTrips.{written-is-read}
 use Rattle.command.specs.declared.command.Subject.{Subject}
 use Rattle.command.specs.declared.command.Subject.the-variants.{Ping, Setting as About, Unknown}
 use Rattle.command.specs.Command.{commandsOf, subjectOf}
-use Rattle.command.specs.Errors.{mostFields, isKind, messageError}
-use Rattle.command.specs.Outcome.{Access, State, thenOutcome, receivedOf, fieldsOutcome, messageOutcome}
+use Rattle.command.specs.Errors.{mostFields, isKind, commandError}
+use Rattle.command.specs.Numbers.{numberedKind, numberOf, isFresh, numberError}
+use Rattle.command.specs.Outcome.{Access, State, thenOutcome, receivedOf, fieldsOutcome}
+use Rattle.command.specs.Handle.{commandOutcome, marked, spent, numberedOutcome, messageOutcome}
+use Rattle.command.proofs.Separate.{known-kind, is-command}
 use Rattle.command.proofs.Places.{put-length, put-front}
-use Rattle.client.specs.Writer.{codeSubject, acceptable, fieldFor, kindFor, commandMessage, Asked, askedSubject, askedField, askedRight, fieldWriting}
-use Rattle.client.specs.Commands.{askedOutcome, askedOutcomes, askedFields, allRight, WrittenIsObeyed, OneIsWritten, unlessRefused, appendAll, AppendedAreFields}
+use Rattle.client.specs.Writer.{codeSubject, acceptable, fieldFor, kindFor, commandMessage, numberedPayload, numberedMessage, Asked, askedSubject, askedField, askedRight, fieldWriting}
+use Rattle.client.specs.Commands.{askedOutcome, askedOutcomes, askedFields, allRight, WrittenIsObeyed, NumberedIsObeyed, OneIsWritten, unlessRefused, appendAll, AppendedAreFields}
 use Rattle.stream.proofs.Bools.{differ, and-both}
 use Rattle.client.proofs.Asked.{fieldAs, field-bytes, field-sized, field-most, asked-right, field-obeyed}
 
@@ -65,34 +71,79 @@ module _ (kind : ℕ) where
       let b = and-both (askedRight kind a) (allRight kind asks) h in
       (asked-right kind a (b .0) .kind-right, rw (← fields-bytes (a ∷ asks) h) (omega arith))
 
-  -- They are a message that is not refused as a whole.
-  fields-pass : (asks : List Asked) → allRight kind asks ≡ true → 1 ≤ length asks → length asks ≤ mostFields → messageError true kind (askedFields kind asks) ≡ 0
-  unfolding messageError
+  -- They are a command that is not refused as a whole.
+  fields-pass : (asks : List Asked) → allRight kind asks ≡ true → 1 ≤ length asks → length asks ≤ mostFields → commandError kind (askedFields kind asks) ≡ 0
+  unfolding commandError
   fields-pass asks h l m =
       let s = fields-some asks h l in
       rw (s .0, ne-eqb (length (askedFields kind asks)) 0 (λ z. omega arith), fields-read asks h, fields-count asks, le-ltb 16 (length asks) m)
 
 module _ {P : Type 0} (access : Access P) (kind : ℕ) where
   fields-obeyed : (x : State P) (asks : List Asked) → allRight kind asks ≡ true
-      → fieldsOutcome access x (commandsOf kind (fieldsAs kind asks)) ≡ askedOutcomes access kind x asks
+      → fieldsOutcome access false x (commandsOf kind (fieldsAs kind asks)) ≡ askedOutcomes access kind x asks
   unfolding fieldsOutcome
   fields-obeyed x [] h = refl
   fields-obeyed x (a ∷ asks) h =
       let b = and-both (askedRight kind a) (allRight kind asks) h in
       rw (field-obeyed access kind x a (b .0)) (ap (thenOutcome (askedOutcome access kind x a)) (fields-obeyed (askedOutcome access kind x a .next) asks (b .1)))
 
+  command-obeyed : (x : State P) (asks : List Asked) → allRight kind asks ≡ true → 1 ≤ length asks → length asks ≤ mostFields
+      → commandOutcome access false x kind (askedFields kind asks) ≡ askedOutcomes access kind x asks
+  unfolding commandOutcome
+  command-obeyed x asks h l m = rw (fields-pass kind asks h l m, fields-read kind asks h) (fields-obeyed x asks h)
+
 -- At most 112 bytes in 16 fields.
-pub fields-short : (kind : ℕ) (asks : List Asked) → length asks ≤ mostFields → length (askedFields kind asks) ≤ 255
+pub fields-short : (kind : ℕ) (asks : List Asked) → length asks ≤ mostFields → length (askedFields kind asks) ≤ 112
 fields-short kind asks m = omega (arith, fields-most kind asks)
 
+-- A message that is written is received as it is.
+received-back : (kind : ℕ) (payload : List ℕ) → length payload ≤ 255 → receivedOf true (messageOf kind payload) ≡ record { good = true; kind = kind; payload = payload }
+unfolding receivedOf
+received-back kind payload l = let t : RoundTrip kind payload = written-is-read kind payload l in rw (t .kind-back, t .payload-back)
+
 pub written-is-obeyed : WrittenIsObeyed
-unfolding messageOutcome receivedOf
 written-is-obeyed kind asks h l m =
-    let t : RoundTrip kind (askedFields kind asks) = written-is-read kind (askedFields kind asks) (fields-short kind asks m) in
+    let n : length (askedFields kind asks) ≤ 255 = omega (arith, fields-short kind asks m) in
+    let k : eqb kind numberedKind ≡ false = known-kind kind (fields-some kind asks h l .0) in
     record {
-      whole = t .whole;
-      outcome = λ P access x. rw (t .kind-back, t .payload-back, fields-pass kind asks h l m, fields-read kind asks h) (fields-obeyed access kind x asks h);
+      whole = written-is-read kind (askedFields kind asks) n .whole;
+      outcome = λ P access x.
+          rw (received-back kind (askedFields kind asks) n) (is-command access 1 x kind (askedFields kind asks) k ∙ command-obeyed access kind x asks h l m);
     }
+
+-- ---- behind a number
+
+module _ (number kind : ℕ) (fields : List ℕ) where
+  abbrev behind : List ℕ
+  behind = numberedPayload number kind fields
+
+  number-back : number < 4294967296 → numberOf behind ≡ number
+  number-back h = rw (word-back number h) (omega arith)
+
+  fresh-passes : number < 4294967296 → (last : Stored) → isFresh last number ≡ true → numberError last behind ≡ 0
+  unfolding numberError
+  fresh-passes h last f = rw (le-ltb (length behind) 5 (omega arith), number-back h, f)
+
+spends : {P : Type 0} (access : Access P) (port : ℕ) (x : State P) (number kind : ℕ) (fields : List ℕ) → number < 4294967296
+    → isFresh (access .lastNumber (x .page)) number ≡ true
+    → messageOutcome access port x (record { good = true; kind = numberedKind; payload = numberedPayload number kind fields })
+    ≡ marked (commandOutcome access false (spent access x number) kind fields)
+unfolding messageOutcome numberedOutcome
+spends access port x number kind fields h f = rw (fresh-passes number kind fields h (access .lastNumber (x .page)) f, number-back number kind fields h)
+
+pub numbered-is-obeyed : NumberedIsObeyed
+numbered-is-obeyed number kind asks s h l m =
+    let fs : List ℕ = askedFields kind asks in
+    let n : length (numberedPayload number kind fs) ≤ 255 = omega (arith, fields-short kind asks m) in
+    record {
+      whole = written-is-read numberedKind (numberedPayload number kind fs) n .whole;
+      outcome = λ P access port x f. rw (received-back numberedKind (numberedPayload number kind fs) n) (handled access port x f);
+    }
+  where
+    handled : {P : Type 0} (access : Access P) (port : ℕ) (x : State P) → isFresh (access .lastNumber (x .page)) number ≡ true
+        → messageOutcome access port x (record { good = true; kind = numberedKind; payload = numberedPayload number kind (askedFields kind asks) })
+        ≡ marked (askedOutcomes access kind (spent access x number) asks)
+    handled access port x f = spends access port x number kind (askedFields kind asks) s f ∙ ap marked (command-obeyed access kind (spent access x number) asks h l m)
 
 -- ---- the command writer
 
@@ -111,11 +162,15 @@ subject-same code s f v e a = go (eqb code 0x02) refl (settingOf code) refl s e 
     go t q c r Unknown e a = differ (sym a)
 
 pub one-is-written : OneIsWritten
-unfolding commandMessage
+unfolding commandMessage numberedMessage
 one-is-written code f v a =
     let s : Subject = codeSubject code in
     let e : subjectOf (kindFor s) code ≡ s = subject-same code s f v refl a in
-    record { right = rw (e, a); written = rw (e, append-nil (fieldFor s f v)) }
+    record {
+      right = rw (e, a);
+      written = rw (e, append-nil (fieldFor s f v));
+      numbered = λ number. rw (e, append-nil (fieldFor s f v));
+    }
 
 -- ---- fields appended
 
@@ -144,7 +199,6 @@ module _ (kind : ℕ) where
       rw (e, m) (r .0, r .1, r .2 ∙ rw (put-front n bs room q, append-assoc))
 
 pub appended-are-fields : AppendedAreFields
-appended-are-fields kind asks room h l =
-    let z : 0 + length (askedFields kind asks) ≡ length (askedFields kind asks) = omega arith in
-    let r = all-appended kind asks 0 room h (omega arith) in
-    record { done = r .0; size = r .1 ∙ z; payload = rw z at (r .2) }
+appended-are-fields kind asks n room h l =
+    let r = all-appended kind asks n room h l in
+    record { done = r .0; size = r .1; payload = r .2 }

@@ -2,12 +2,12 @@
 use Prim.Native.Nat.{ℕ, zero, suc, _+_, _-_, _≤_, _<_}
 use native.Mathlib.Omega.{arith}
 use mathlib.Core.Path.{_≡_, refl, sym, _∙_}
-use mathlib.Core.Bool.{Bool, true, false, not}
+use mathlib.Core.Bool.{Bool, true, false, _||_, not}
 use mathlib.Core.List.{List, [], _∷_}
 use lib.Dec.{eqb}
 use lib.ListN.{length, take, drop, getD, length-take, length-drop}
 use lib.Seq.{take-length, take-all}
-use borrow.Author.Tests.{eq-eqb, ne-eqb, le-leb, lt-leb, lt-ltb, le-ltb}
+use borrow.Author.Tests.{eq-eqb, ne-eqb, le-leb, lt-leb, lt-ltb, le-ltb, not-true, not-false}
 use Rattle.word.specs.Word.{number}
 use Rattle.page.specs.declared.setting.Setting.{Setting}
 use Rattle.page.specs.declared.setting.Coded.{Coded}
@@ -20,7 +20,7 @@ use Rattle.message.specs.Message.{lengthOf}
 use Rattle.message.specs.Whole.{wholeNumber}
 use Rattle.message.proofs.RoundTrips.{passed}
 use Rattle.client.specs.declared.reader.Reply.{Reply}
-use Rattle.client.specs.Reader.{noReply, rowsIn, rowRead, rowsWrong, rowsRead, wholeOn, replyRead}
+use Rattle.client.specs.Reader.{carriesValues, noReply, rowsIn, rowRead, rowsWrong, rowsRead, wholeOn, replyRead}
 use Rattle.client.specs.Rows.{startsWithValue, valueFieldSize, rowSize, rowIn}
 use Rattle.client.proofs.Tests.{size-small}
 
@@ -44,8 +44,15 @@ module _ (kind n : ℕ) where
     pub wrong-first : kind ≡ 0x01 → false ≡ rowsWrong kind n
     wrong-first k = rw (ne-eqb n 0 z, le-ltb 16 n h, lt-ltb 1 n (omega arith), k)
 
-    pub wrong-kind : (kind ≡ 0x01 → ⊥) → not (eqb kind 0x02) ≡ rowsWrong kind n
-    wrong-kind k = rw (ne-eqb n 0 z, le-ltb 16 n h, lt-ltb 1 n (omega arith), ne-eqb kind 0x01 k)
+    pub wrong-second : kind ≡ 0x7C → false ≡ rowsWrong kind n
+    wrong-second k = rw (ne-eqb n 0 z, le-ltb 16 n h, lt-ltb 1 n (omega arith), k)
+
+    pub wrong-kind : (kind ≡ 0x01 → ⊥) → (kind ≡ 0x7C → ⊥) → not (eqb kind 0x02) ≡ rowsWrong kind n
+    wrong-kind k j = rw (ne-eqb n 0 z, le-ltb 16 n h, lt-ltb 1 n (omega arith), ne-eqb kind 0x01 k, ne-eqb kind 0x7C j) (go (eqb kind 0x02))
+      where
+        go : (b : Bool) → not b ≡ not (b || false)
+        go true = refl
+        go false = refl
 
 -- ---- what a row says
 
@@ -89,31 +96,44 @@ module _ (s : Setting) (bs : List ℕ) (n : ℕ) (z : n ≡ valueSize s) where
           rw m (take-all 4 (take (valueSize s) (drop 2 bs)) (rw length-take (omega (arith, size-small s)))) in
           rw (p, t, q, le-leb (valueSize s + 2) (length bs) (omega arith), eq-eqb (getD bs 0 0) (codeOf s) (f ∙ c), eq-eqb (getD bs 1 0) (valueSize s) (sym o ∙ g ∙ z))
 
+-- ---- the types whose rows carry values
+
+module _ (kind : ℕ) where
+  pub carries-first : kind ≡ 0x02 → true ≡ carriesValues kind
+  carries-first k = rw k
+
+  pub carries-second : (kind ≡ 0x02 → ⊥) → eqb kind 0x7C ≡ carriesValues kind
+  carries-second k = rw (ne-eqb kind 0x02 k)
+
 -- ---- the field that adds a value
 
 module _ (kind echo error : ℕ) (bs : List ℕ) where
-  pub field-kind : (kind ≡ 0x02 → ⊥) → 0 ≡ valueFieldSize kind echo error bs
-  unfolding valueFieldSize
-  field-kind n = rw (ne-eqb kind 0x02 n)
-
-  module _ (k : kind ≡ 0x02) where
-    pub field-error : (error ≡ 0 → ⊥) → 0 ≡ valueFieldSize kind echo error bs
+  module _ (a : Bool) (v : a ≡ carriesValues kind) where
+    pub field-kind : not a ≡ true → 0 ≡ valueFieldSize kind echo error bs
     unfolding valueFieldSize
-    field-error n = rw (k, ne-eqb error 0 n)
+    field-kind n = rw (← v, not-true a n)
 
-    module _ (e : error ≡ 0) (x : Coded) (c : x ≡ settingOf echo) where
-      pub field-unknown : x ≡ Nothing → 0 ≡ valueFieldSize kind echo error bs
+    module _ (k : not a ≡ false) where
+      carries : carriesValues kind ≡ true
+      carries = sym v ∙ not-false a k
+
+      pub field-error : (error ≡ 0 → ⊥) → 0 ≡ valueFieldSize kind echo error bs
       unfolding valueFieldSize
-      field-unknown u = rw (k, e, ← c, u)
+      field-error n = rw (carries, ne-eqb error 0 n)
 
-      module _ (s : Setting) (u : x ≡ Known s) (b : Bool) (q : b ≡ startsWithValue s bs) where
-        pub field-none : b ≡ false → 0 ≡ valueFieldSize kind echo error bs
+      module _ (e : error ≡ 0) (x : Coded) (c : x ≡ settingOf echo) where
+        pub field-unknown : x ≡ Nothing → 0 ≡ valueFieldSize kind echo error bs
         unfolding valueFieldSize
-        field-none f = rw (k, e, ← c, u, ← q, f)
+        field-unknown u = rw (carries, e, ← c, u)
 
-        pub field-value : b ≡ true → (n : ℕ) → n ≡ valueSize s → n + 2 ≡ valueFieldSize kind echo error bs
-        unfolding valueFieldSize
-        field-value t n z = rw (k, e, ← c, u, ← q, t, z)
+        module _ (s : Setting) (u : x ≡ Known s) (b : Bool) (q : b ≡ startsWithValue s bs) where
+          pub field-none : b ≡ false → 0 ≡ valueFieldSize kind echo error bs
+          unfolding valueFieldSize
+          field-none f = rw (carries, e, ← c, u, ← q, f)
+
+          pub field-value : b ≡ true → (n : ℕ) → n ≡ valueSize s → n + 2 ≡ valueFieldSize kind echo error bs
+          unfolding valueFieldSize
+          field-value t n z = rw (carries, e, ← c, u, ← q, t, z)
 
 -- ---- a row at the front
 
@@ -133,13 +153,13 @@ module _ (kind : ℕ) (bs : List ℕ) where
       row-two h = rw (le-leb 4 (length bs) l, f, ne-eqb (getD bs 1 0) 0x02 h)
 
       module _ (g : getD bs 1 0 ≡ 0x02) where
-        pub row-error : 4 < getD bs 3 0 → 0 ≡ rowSize kind bs
+        pub row-error : 5 < getD bs 3 0 → 0 ≡ rowSize kind bs
         unfolding rowSize
-        row-error h = rw (le-leb 4 (length bs) l, f, g, lt-leb (getD bs 3 0) 4 h)
+        row-error h = rw (le-leb 4 (length bs) l, f, g, lt-leb (getD bs 3 0) 5 h)
 
-        pub row-there : getD bs 3 0 ≤ 4 → (m : ℕ) → m ≡ valueFieldSize kind (getD bs 2 0) (getD bs 3 0) (take (length bs - 4) (drop 4 bs)) → 4 + m ≡ rowSize kind bs
+        pub row-there : getD bs 3 0 ≤ 5 → (m : ℕ) → m ≡ valueFieldSize kind (getD bs 2 0) (getD bs 3 0) (take (length bs - 4) (drop 4 bs)) → 4 + m ≡ rowSize kind bs
         unfolding rowSize
-        row-there h m e = rw (le-leb 4 (length bs) l, f, g, le-leb (getD bs 3 0) 4 h, e, rest-part bs 4)
+        row-there h m e = rw (le-leb 4 (length bs) l, f, g, le-leb (getD bs 3 0) 5 h, e, rest-part bs 4)
 
 -- ---- a message
 

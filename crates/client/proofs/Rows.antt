@@ -18,7 +18,7 @@ use Rattle.page.specs.declared.setting.Stored.the-variants.{Absent, Value}
 use Rattle.page.specs.Settings.{settingOf, codeOf, valueSize, allowed}
 use Rattle.message.specs.Fields.{Field, consField, fieldsPast, fieldsOf}
 use Rattle.message.proofs.FieldRows.{past-there, past-short}
-use Rattle.client.specs.Reader.{Row, isRow, valueOn, valueIn, valueIf, valueAfter, consRow, rowsOf, rowsIn}
+use Rattle.client.specs.Reader.{carriesValues, Row, isError, isRow, valueOn, valueIn, valueIf, valueAfter, consRow, rowsOf, rowsIn}
 use Rattle.client.specs.Rows.{startsWithValue, codedSize, sizeIf, valueFieldSize, startsWithRow, rowSize, rowIn}
 use Rattle.stream.proofs.Bools.{differ, and-both}
 use Rattle.client.proofs.Tests.{size-some, size-small}
@@ -101,7 +101,7 @@ there s x n ys e =
 module _ (kind echo error x n : ℕ) (ys : List ℕ) (h : n ≤ length ys) where
   adds : Adds n ys (valueAfter kind (rowField echo error) (record { code = x; size = n; content = take n ys })) (valueFieldSize kind echo error (x ∷ n ∷ ys))
   unfolding valueAfter valueFieldSize
-  adds = go (eqb kind 0x02 && eqb error 0) (settingOf echo)
+  adds = go (carriesValues kind && eqb error 0) (settingOf echo)
     where
       known : (s : Setting) (b : Bool) → startsWithValue s (x ∷ n ∷ ys) ≡ b
           → Adds n ys (valueIn (Known s) (record { code = x; size = n; content = take n ys })) (codedSize (Known s) (x ∷ n ∷ ys))
@@ -118,7 +118,7 @@ module _ (kind echo error x n : ℕ) (ys : List ℕ) (h : n ≤ length ys) where
 -- Where no setting's value stands, none is added.
 none-added : (kind echo error : ℕ) (bs : List ℕ) → ((s : Setting) → startsWithValue s bs ≡ false) → valueFieldSize kind echo error bs ≡ 0
 unfolding valueFieldSize
-none-added kind echo error bs h = go (eqb kind 0x02 && eqb error 0) (settingOf echo)
+none-added kind echo error bs h = go (carriesValues kind && eqb error 0) (settingOf echo)
   where
     go : (t : Bool) (c : Coded) → sizeIf t (codedSize c bs) ≡ 0
     go true Nothing = refl
@@ -143,7 +143,7 @@ pub record Front (kind : ℕ) (bs : List ℕ) (z : ℕ) : Type 0 where
   pub fits : z ≤ length bs
   pub rows : rowsIn kind (fieldsOf bs) ≡ consRow (rowIn (take z bs)) (rowsIn kind (fieldsOf (drop z bs)))
 
-module _ (kind echo error : ℕ) (t : leb error 4 ≡ true) where
+module _ (kind echo error : ℕ) (t : isError error ≡ true) where
   abbrev plain : Row
   plain = record { echo = echo; error = error; value = Absent }
 
@@ -208,7 +208,7 @@ row-front kind (a ∷ []) e = differ (sym e)
 row-front kind (a ∷ b ∷ []) e = differ (sym e)
 row-front kind (a ∷ b ∷ c ∷ []) e = differ (sym e)
 row-front kind (a ∷ b ∷ c ∷ d ∷ bs) e =
-    let p = and-both (leb 4 (length (a ∷ b ∷ c ∷ d ∷ bs)) && eqb a 0x80 && eqb b 2) (leb d 4) e in
+    let p = and-both (leb 4 (length (a ∷ b ∷ c ∷ d ∷ bs)) && eqb a 0x80 && eqb b 2) (isError d) e in
     let q = and-both (leb 4 (length (a ∷ b ∷ c ∷ d ∷ bs)) && eqb a 0x80) (eqb b 2) (p .0) in
     let r = and-both (leb 4 (length (a ∷ b ∷ c ∷ d ∷ bs))) (eqb a 0x80) (q .0) in
     rw (eqb-true a 0x80 (r .1), eqb-true b 2 (q .1)) (field-front kind c d (p .1) bs)

@@ -1,25 +1,26 @@
 -- What the command writer leaves in the room, case by case.
-use Prim.Native.Nat.{ℕ, _+_, _-_, _%_, _≤_, _<_}
+use Prim.Native.Nat.{ℕ, _+_, _-_, _/_, _%_, _≤_, _<_}
 use native.Mathlib.Omega.{arith}
 use mathlib.Core.Path.{_≡_, refl, ap, sym, _∙_}
 use mathlib.Core.Bool.{Bool, true, false, _&&_, _||_, not}
 use mathlib.Core.List.{List, [], _∷_, _++_, append-assoc, append-nil}
 use lib.Dec.{eqb, leb, ltb}
-use lib.ListN.{length, take, drop, length-append, length-drop, drop-of-length-le}
-use lib.Seq.{take-all, take-at, drop-drop}
+use lib.ListN.{length, take, drop, length-drop, drop-of-length-le}
+use lib.Seq.{take-all, drop-drop}
 use borrow.Author.Tests.{ne-eqb, le-leb, lt-leb, leb-true, lt-ltb, le-ltb, not-false}
 use Rattle.word.specs.Word.{wordBytes}
 use Rattle.page.specs.declared.setting.Setting.{Setting}
 use Rattle.page.specs.declared.setting.Setting.the-variants.{Baud, Accelerometer, Gyroscope}
 use Rattle.page.specs.Settings.{codeOf, allowed}
 use Rattle.message.specs.declared.write.Written.{Written}
-use Rattle.message.specs.Write.{Writing, refuseWriting, doneWriting, writingOf, plainWriting}
+use Rattle.message.specs.Write.{Writing, refuseWriting, doneWriting, writingOf, putAt, plainWriting}
 use Rattle.command.specs.declared.command.Subject.{Subject}
 use Rattle.command.specs.declared.command.Subject.the-variants.{Ping, Setting as About, Unknown}
 use Rattle.command.specs.Command.{subjectOf}
 use Rattle.command.specs.Errors.{isFunction}
+use Rattle.command.proofs.Places.{put-length, put-front}
 use Rattle.stream.proofs.Bools.{differ, and-both}
-use Rattle.client.specs.Writer.{codeSubject, kindFor, acceptable, fieldFor, commandMessage, commandWriting, Asked, behindWriting, fieldWriting}
+use Rattle.client.specs.Writer.{codeSubject, kindFor, acceptable, fieldFor, commandMessage, commandWriting, numberedMessage, numberedWriting, Asked, behindWriting, fieldWriting}
 use Rattle.client.proofs.Asked.{field-most}
 use Rattle.client.proofs.Commands.{subject-ping, subject-about}
 
@@ -123,7 +124,7 @@ module _ (kind : ℕ) (a : Asked) (n : ℕ) (room : List ℕ) (x : Subject) (is 
   unfolding fieldWriting acceptable
   field-unknown e r p = rw (← is, e, p)
 
--- ---- the command writer: one field, appended to nothing, and a message made of it
+-- ---- one field, and what a message is made of
 
 pub kind-back : (kind code : ℕ) (s : Subject) (f v : ℕ) → subjectOf kind code ≡ s → acceptable s f v ≡ true → kindFor s ≡ kind
 unfolding acceptable
@@ -131,29 +132,44 @@ kind-back kind code Ping f v e a = sym (subject-ping kind code e .0)
 kind-back kind code (About s) f v e a = sym (subject-about kind code s e .0)
 kind-back kind code Unknown f v e a = differ (sym a)
 
-module _ (code f v kind : ℕ) (ks : subjectOf kind code ≡ codeSubject code) (seven : List ℕ) (l : length seven ≡ 7) where
+-- One field behind the first n bytes of a payload to be that has room for it. It is refused where the command is not accepted.
+module _ (code f v kind : ℕ) (ks : subjectOf kind code ≡ codeSubject code) (n : ℕ) (before : List ℕ) (w : Written) (after : List ℕ) where
   abbrev s : Subject
   s = codeSubject code
 
   abbrev field : List ℕ
   field = fieldFor s f v
 
-  abbrev appended : Writing
-  appended = fieldWriting kind (record { code = code; function = f; value = v }) 0 seven
+  abbrev left : Writing
+  left = record { answer = w; room = after }
 
-  module _ (w : Written) (after : List ℕ) (e : record { answer = w; room = after } ≡ appended) where
-    number-is : w .number ≡ appended .answer .number
-    number-is = ap (λ (x : Writing). x .answer .number) e
+  module _ (e : left ≡ fieldWriting kind (record { code = code; function = f; value = v }) n before) (l : n + 7 ≤ length before) where
+    fits : n + length field ≤ length before
+    fits = omega (arith, field-most s f v)
+
+    done : acceptable s f v ≡ true → left ≡ record { answer = record { number = 0; length = n + length field }; room = putAt n field before }
+    unfolding fieldWriting
+    done a = e ∙ rw (ks, a, le-ltb (length before) (n + length field) fits)
 
     refused-number : acceptable s f v ≡ false → w .number ≡ 28
     unfolding fieldWriting
-    refused-number a = number-is ∙ rw (ks, a)
+    refused-number a = ap (λ (x : Writing). x .answer .number) e ∙ rw (ks, a)
 
-    done : acceptable s f v ≡ true → appended ≡ record { answer = record { number = 0; length = length field }; room = field ++ drop (length field) seven }
-    unfolding fieldWriting
-    done a =
-        let z : 0 + length field ≡ length field = omega arith in
-        rw (ks, a, z, le-ltb (length seven) (length field) (omega (arith, field-most s f v)))
+    module _ (z : w .number ≡ 0 → ⊥) (r : Written) (p : r ≡ record { number = 28; length = 0 }) (room : List ℕ) where
+      not-right : acceptable s f v ≡ false
+      not-right = go (acceptable s f v) refl
+        where
+          go : (b : Bool) → acceptable s f v ≡ b → acceptable s f v ≡ false
+          go true a = absurd (z (ap (λ (x : Writing). x .answer .number) (done a)))
+          go false a = a
+
+      pub command-refused : record { answer = r; room = room } ≡ commandWriting code f v room
+      unfolding commandWriting
+      command-refused = rw (not-right, p)
+
+      pub numbered-refused : (number : ℕ) → record { answer = r; room = room } ≡ numberedWriting number code f v room
+      unfolding numberedWriting
+      numbered-refused number = rw (not-right, p)
 
     -- What is appended where the number is 0.
     module _ (z : w .number ≡ 0) where
@@ -164,27 +180,46 @@ module _ (code f v kind : ℕ) (ks : subjectOf kind code ≡ codeSubject code) (
           go true a = a
           go false a = absurd (omega (arith, refused-number a, z))
 
-      length-is : w .length ≡ length field
-      length-is = ap (λ (x : Writing). x .answer .length) (e ∙ done right)
+      length-is : w .length ≡ n + length field
+      length-is = ap (λ (x : Writing). x .answer .length) (done right)
+
+      room-is : after ≡ putAt n field before
+      room-is = ap (λ (x : Writing). x .room) (done right)
 
       pub field-fits : w .length ≤ length after
-      field-fits =
-          let r : after ≡ field ++ drop (length field) seven = ap (λ (x : Writing). x .room) (e ∙ done right) in
-          omega (arith, length-is, ap length r, length-append field (drop (length field) seven))
+      field-fits = omega (arith, length-is, ap length room-is, put-length n field before fits, fits)
 
-      pub command-done : (p : List ℕ) → p ≡ take (w .length) after → (room : List ℕ) (x : Writing) → x ≡ plainWriting kind p room → x ≡ commandWriting code f v room
-      unfolding commandWriting commandMessage plainWriting
-      command-done p ps room x h =
-          let r : after ≡ field ++ drop (length field) seven = ap (λ (x : Writing). x .room) (e ∙ done right) in
-          let t : p ≡ field = ps ∙ ap (λ (n : ℕ). take n after) length-is ∙ ap (take (length field)) r ∙ take-at field (drop (length field) seven) (length field) refl in
-          let k : kindFor s ≡ kind = kind-back kind code s f v ks right in
-          h ∙ rw (t, le-ltb 255 (length field) (omega (arith, field-most s f v)), right, k)
+      payload-is : take (w .length) after ≡ take n before ++ field
+      payload-is = ap (λ (k : ℕ). take k after) length-is ∙ ap (take (n + length field)) room-is ∙ put-front n field before fits
 
-    pub command-refused : (w .number ≡ 0 → ⊥) → (r : Written) → r ≡ record { number = 28; length = 0 } → (room : List ℕ)
-        → record { answer = r; room = room } ≡ commandWriting code f v room
-    unfolding commandWriting
-    command-refused n r p room = go (acceptable s f v) refl
-      where
-        go : (b : Bool) → acceptable s f v ≡ b → record { answer = r; room = room } ≡ commandWriting code f v room
-        go false a = rw (a, p)
-        go true a = absurd (n (ap (λ (x : Writing). x .answer .number) (e ∙ done a)))
+      kind-is : kindFor s ≡ kind
+      kind-is = kind-back kind code s f v ks right
+
+-- ---- the writers: a payload of the field, or of the number, the type and the field
+
+pub command-done : (code f v kind : ℕ) → subjectOf kind code ≡ codeSubject code → (before : List ℕ) (w : Written) (after : List ℕ)
+    → record { answer = w; room = after } ≡ fieldWriting kind (record { code = code; function = f; value = v }) 0 before → 7 ≤ length before → w .number ≡ 0
+    → (p : List ℕ) → p ≡ take (w .length) after → (room : List ℕ) (x : Writing) → x ≡ plainWriting kind p room → x ≡ commandWriting code f v room
+unfolding commandWriting commandMessage plainWriting
+command-done code f v kind ks before w after e l z p ps room x h =
+    let fs : List ℕ = fieldFor (codeSubject code) f v in
+    let t : p ≡ fs = ps ∙ payload-is code f v kind ks 0 before w after e l z in
+    let a : acceptable (codeSubject code) f v ≡ true = right code f v kind ks 0 before w after e l z in
+    let k : kindFor (codeSubject code) ≡ kind = kind-is code f v kind ks 0 before w after e l z in
+    h ∙ rw (t, le-ltb 255 (length fs) (omega (arith, field-most (codeSubject code) f v)), a, k)
+
+pub numbered-done : (code f v kind : ℕ) → subjectOf kind code ≡ codeSubject code
+    → (number a b c d : ℕ) → a ≡ number / 16777216 % 256 → b ≡ number / 65536 % 256 → c ≡ number / 256 % 256 → d ≡ number % 256
+    → (rest : List ℕ) (w : Written) (after : List ℕ)
+    → record { answer = w; room = after } ≡ fieldWriting kind (record { code = code; function = f; value = v }) 5 (a ∷ b ∷ c ∷ d ∷ kind ∷ rest)
+    → 7 ≤ length rest → w .number ≡ 0 → (p : List ℕ) → p ≡ take (w .length) after → (room : List ℕ) (x : Writing) → x ≡ plainWriting 0x7C p room
+    → x ≡ numberedWriting number code f v room
+unfolding numberedWriting numberedMessage plainWriting
+numbered-done code f v kind ks number a b c d ha hb hc hd rest w after e l z p ps room x h =
+    let before : List ℕ = a ∷ b ∷ c ∷ d ∷ kind ∷ rest in
+    let fs : List ℕ = fieldFor (codeSubject code) f v in
+    let g : 5 + 7 ≤ length before = omega arith in
+    let t : p ≡ a ∷ b ∷ c ∷ d ∷ kind ∷ fs = ps ∙ payload-is code f v kind ks 5 before w after e g z in
+    let r : acceptable (codeSubject code) f v ≡ true = right code f v kind ks 5 before w after e g z in
+    let k : kindFor (codeSubject code) ≡ kind = kind-is code f v kind ks 5 before w after e g z in
+    h ∙ rw (t, le-ltb 255 (length (a ∷ b ∷ c ∷ d ∷ kind ∷ fs)) (omega (arith, field-most (codeSubject code) f v)), r, k, ha, hb, hc, hd)

@@ -100,9 +100,10 @@ first-size false true true f e = differ (sym e)
 first-size false true false f e = differ (sym f)
 first-size false false t f e = differ (sym e)
 
-module _ (kind : ℕ) (f : Field) (sized : f .size ≡ length (f .content)) (bytes : (i : ℕ) → getD (f .content) i 0 < 256) (free : fieldError (commandOf kind f) ≡ 0) where
+module _ (needs : Bool) (kind : ℕ) (f : Field) (sized : f .size ≡ length (f .content)) (bytes : (i : ℕ) → getD (f .content) i 0 < 256)
+    (free : fieldError needs (commandOf kind f) ≡ 0) where
   passed : Accepted (commandOf kind f)
-  passed = accepted (commandOf kind f) free
+  passed = accepted needs (commandOf kind f) free
 
   about-is : (s : Setting) → subjectOf kind (f .code) ≡ About s → (t : Bool) → eqb (getD (f .content) 0 0) 1 ≡ t → FieldIs kind f
   unfolding commandOf
@@ -153,18 +154,18 @@ record FieldsAre (kind : ℕ) (fs : List Field) : Type 0 where
   right : allRight kind asked ≡ true
   written : rowBytes (allLookedAt kind fs) ≡ askedFields kind asked
 
-fields-are : (kind : ℕ) (fs : List Field) → SizesRight fs → ((i : ℕ) → getD (rowBytes fs) i 0 < 256) → NoErrors kind fs → FieldsAre kind fs
-fields-are kind [] s b e = record { asked = []; right = refl; written = refl }
-fields-are kind (f ∷ fs) s b e =
-    let one = field-is kind f (s .0) (λ i. front-byte (fieldBytes f) (rowBytes fs) b (suc (suc i))) (e .0) (subjectOf kind (f .code)) refl in
-    let more = fields-are kind fs (s .1) (behind-byte (fieldBytes f) (rowBytes fs) b) (e .1) in
+fields-are : (needs : Bool) (kind : ℕ) (fs : List Field) → SizesRight fs → ((i : ℕ) → getD (rowBytes fs) i 0 < 256) → NoErrors needs kind fs → FieldsAre kind fs
+fields-are needs kind [] s b e = record { asked = []; right = refl; written = refl }
+fields-are needs kind (f ∷ fs) s b e =
+    let one = field-is needs kind f (s .0) (λ i. front-byte (fieldBytes f) (rowBytes fs) b (suc (suc i))) (e .0) (subjectOf kind (f .code)) refl in
+    let more = fields-are needs kind fs (s .1) (behind-byte (fieldBytes f) (rowBytes fs) b) (e .1) in
     record { asked = one .asked ∷ more .asked; right = rw (one .right, more .right); written = rw (← one .written, more .written) }
 
 pub obeyed-is-written : ObeyedIsWritten
-obeyed-is-written m fs b e free =
+obeyed-is-written needs m fs b e free =
     let f = fields-fill (payloadOf m) fs e in
     let q : (i : ℕ) → getD (payloadOf m) i 0 < 256 = taken-byte (lengthOf m) (drop 4 m) (λ i. rw (getD-drop 4 m i 0) (b (4 + i))) in
-    let r = fields-are (typeOf m) fs (f .1) (rw (f .0) q) free in
+    let r = fields-are needs (typeOf m) fs (f .1) (rw (f .0) q) free in
     record { asked = r .asked; right = r .right; written = r .written }
 
 -- ---- one field
@@ -180,11 +181,11 @@ known kind code Unknown f v e a = differ (sym a)
 
 pub one-obeyed-is-written : OneObeyedIsWritten
 unfolding commandMessage
-one-obeyed-is-written m f b e free =
+one-obeyed-is-written needs m f b e free =
     let h = fields-fill (payloadOf m) (f ∷ []) e in
     let q : (i : ℕ) → getD (payloadOf m) i 0 < 256 = taken-byte (lengthOf m) (drop 4 m) (λ i. rw (getD-drop 4 m i 0) (b (4 + i))) in
     let p : (i : ℕ) → getD (rowBytes (f ∷ [])) i 0 < 256 = subst (λ (l : List ℕ). (i : ℕ) → getD l i 0 < 256) (sym (h .0)) q in
-    let one = field-is (typeOf m) f (h .1 .0) (λ i. front-byte (fieldBytes f) [] p (suc (suc i))) free (subjectOf (typeOf m) (f .code)) refl in
+    let one = field-is needs (typeOf m) f (h .1 .0) (λ i. front-byte (fieldBytes f) [] p (suc (suc i))) free (subjectOf (typeOf m) (f .code)) refl in
     let a : Asked = one .asked in
     let k = known (typeOf m) (a .code) (subjectOf (typeOf m) (a .code)) (a .function) (a .value) refl (one .right) in
     let t = kind-back (typeOf m) (a .code) (subjectOf (typeOf m) (a .code)) (a .function) (a .value) refl (one .right) in

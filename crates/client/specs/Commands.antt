@@ -4,7 +4,7 @@ use mathlib.Core.Path.{_≡_}
 use mathlib.Core.Bool.{Bool, true, _&&_, cond}
 use mathlib.Core.List.{List, [], _∷_, _++_}
 use mathlib.Core.Option.{some}
-use Prim.Native.Nat.{ℕ, zero, suc, _<_, _≤_}
+use Prim.Native.Nat.{ℕ, zero, suc, _+_, _<_, _≤_}
 use lib.Dec.{eqb, leb}
 use lib.ListN.{length, take, getD}
 use Rattle.page.specs.declared.setting.Setting.{Setting}
@@ -18,8 +18,10 @@ use Rattle.command.specs.declared.command.Subject.the-variants.{Ping, Setting a
 use Rattle.command.specs.Command.{commandOf}
 use Rattle.command.specs.Effects.{Effect, leaving, functionEffect}
 use Rattle.command.specs.Errors.{mostFields, fieldError}
-use Rattle.command.specs.Outcome.{Access, State, Outcome, receivedOf, idle, rowOutcome, thenOutcome, effectOutcome, messageOutcome}
-use Rattle.client.specs.Writer.{codeSubject, kindFor, acceptable, commandMessage, Asked, askedSubject, askedField, askedRight, fieldWriting}
+use Rattle.command.specs.Numbers.{numberedKind, isFresh}
+use Rattle.command.specs.Outcome.{Access, State, Outcome, receivedOf, idle, rowOutcome, thenOutcome, effectOutcome}
+use Rattle.command.specs.Handle.{marked, spent, messageOutcome}
+use Rattle.client.specs.Writer.{codeSubject, kindFor, acceptable, commandMessage, numberedPayload, numberedMessage, Asked, askedSubject, askedField, askedRight, fieldWriting}
 
 -- ---- what is asked for
 
@@ -50,22 +52,38 @@ allRight kind (a ∷ asks) = askedRight kind a && allRight kind asks
 
 -- ---- what is written is obeyed
 
--- A message of 1 to 16 such fields is whole, and is handled without error with exactly their effects in order, whatever the settings
--- and the page.
+-- A message of 1 to 16 such fields is whole. On port 1 it is handled without error, with exactly their effects in order, whatever the
+-- settings and the page. (On port 0 it is the same as long as the page has no number: `WithoutNumber` in crate command.)
 pub record Obeyed (kind : ℕ) (asks : List Asked) : Type 1 where
   pub whole : wholeNumber (messageOf kind (askedFields kind asks)) ≡ 0
   pub outcome : (P : Type 0) (access : Access P) (x : State P)
-      → messageOutcome access x (receivedOf true (messageOf kind (askedFields kind asks))) ≡ askedOutcomes access kind x asks
+      → messageOutcome access 1 x (receivedOf true (messageOf kind (askedFields kind asks))) ≡ askedOutcomes access kind x asks
 
 -- Proof: Obedience `written-is-obeyed`.
 abbrev pub WrittenIsObeyed : Type 1
 WrittenIsObeyed = (kind : ℕ) (asks : List Asked) → allRight kind asks ≡ true → 1 ≤ length asks → length asks ≤ mostFields → Obeyed kind asks
 
--- The command writer writes such a message, of one field. Proof: Obedience `one-is-written`.
+-- Behind a fresh number it is handled so on every port, on the page with the number, and the mark of a save is set.
+pub record ObeyedNumbered (number kind : ℕ) (asks : List Asked) : Type 1 where
+  pub whole : wholeNumber (messageOf numberedKind (numberedPayload number kind (askedFields kind asks))) ≡ 0
+  pub outcome : (P : Type 0) (access : Access P) (port : ℕ) (x : State P) → isFresh (access .lastNumber (x .page)) number ≡ true
+      → messageOutcome access port x (receivedOf true (messageOf numberedKind (numberedPayload number kind (askedFields kind asks))))
+      ≡ marked (askedOutcomes access kind (spent access x number) asks)
+
+-- Proof: Obedience `numbered-is-obeyed`.
+abbrev pub NumberedIsObeyed : Type 1
+NumberedIsObeyed =
+    (number kind : ℕ) (asks : List Asked) → number < 4294967296 → allRight kind asks ≡ true → 1 ≤ length asks → length asks ≤ mostFields
+    → ObeyedNumbered number kind asks
+
+-- The command writers write such messages, of one field. Proof: Obedience `one-is-written`.
 pub record OneAsked (code function value : ℕ) : Type 0 where
   pub right : allRight (kindFor (codeSubject code)) (record { code = code; function = function; value = value } ∷ []) ≡ true
   pub written : commandMessage code function value
       ≡ messageOf (kindFor (codeSubject code)) (askedFields (kindFor (codeSubject code)) (record { code = code; function = function; value = value } ∷ []))
+  pub numbered : (number : ℕ) → numberedMessage number code function value
+      ≡ messageOf numberedKind
+      (numberedPayload number (kindFor (codeSubject code)) (askedFields (kindFor (codeSubject code)) (record { code = code; function = function; value = value } ∷ [])))
 
 abbrev pub OneIsWritten : Type 0
 OneIsWritten = (code function value : ℕ) → acceptable (codeSubject code) function value ≡ true → OneAsked code function value
@@ -81,14 +99,17 @@ appendAll kind (a ∷ asks) n room =
     let w : Writing = fieldWriting kind a n room in
     unlessRefused (w .answer .number) w (appendAll kind asks (w .answer .length) (w .room))
 
--- From the front of a room they are the payload of such a message, and none is refused. Proof: Obedience `appended-are-fields`.
-pub record Appended (kind : ℕ) (asks : List Asked) (room : List ℕ) : Type 0 where
-  pub done : appendAll kind asks 0 room .answer .number ≡ 0
-  pub size : appendAll kind asks 0 room .answer .length ≡ length (askedFields kind asks)
-  pub payload : take (length (askedFields kind asks)) (appendAll kind asks 0 room .room) ≡ askedFields kind asks
+-- None is refused, and they stand behind those n bytes: from the front of a room they are the payload of such a message, and behind a
+-- number and the type, five bytes, that of a numbered one. Proof: Obedience `appended-are-fields`.
+pub record Appended (kind : ℕ) (asks : List Asked) (n : ℕ) (room : List ℕ) : Type 0 where
+  pub done : appendAll kind asks n room .answer .number ≡ 0
+  pub size : appendAll kind asks n room .answer .length ≡ n + length (askedFields kind asks)
+  pub payload : take (n + length (askedFields kind asks)) (appendAll kind asks n room .room) ≡ take n room ++ askedFields kind asks
 
 abbrev pub AppendedAreFields : Type 0
-AppendedAreFields = (kind : ℕ) (asks : List Asked) (room : List ℕ) → allRight kind asks ≡ true → length (askedFields kind asks) ≤ length room → Appended kind asks room
+AppendedAreFields =
+    (kind : ℕ) (asks : List Asked) (n : ℕ) (room : List ℕ) → allRight kind asks ≡ true → n + length (askedFields kind asks) ≤ length room
+    → Appended kind asks n room
 
 -- ---- what is obeyed is what is written
 
@@ -101,12 +122,12 @@ abbrev pub allLookedAt : ℕ → List Field → List Field
 allLookedAt kind [] = []
 allLookedAt kind (f ∷ fs) = lookedAt kind f ∷ allLookedAt kind fs
 
--- Each field is handled without error.
-abbrev pub NoErrors : ℕ → List Field → Type 0
-NoErrors kind [] = Unit {0}
-NoErrors kind (f ∷ fs) = (fieldError (commandOf kind f) ≡ 0) × NoErrors kind fs
+-- Each field is handled without error, whether or not it needs a number.
+abbrev pub NoErrors : Bool → ℕ → List Field → Type 0
+NoErrors needs kind [] = Unit {0}
+NoErrors needs kind (f ∷ fs) = (fieldError needs (commandOf kind f) ≡ 0) × NoErrors needs kind fs
 
--- Every message whose fields are all handled without error is, but for the value bytes that are not looked at, one of what is
+-- Every message of type 01 or 02 whose fields are all handled without error is, but for the value bytes that are not looked at, one of what is
 -- asked by its codes, functions and values. (The value bytes are bytes.)
 pub record IsCommand (m : List ℕ) (fs : List Field) : Type 0 where
   pub asked : List Asked
@@ -116,7 +137,7 @@ pub record IsCommand (m : List ℕ) (fs : List Field) : Type 0 where
 -- Proof: Written `obeyed-is-written`.
 abbrev pub ObeyedIsWritten : Type 0
 ObeyedIsWritten =
-    (m : List ℕ) (fs : List Field) → ((i : ℕ) → getD m i 0 < 256) → fieldsOf (payloadOf m) ≡ some fs → NoErrors (typeOf m) fs → IsCommand m fs
+    (needs : Bool) (m : List ℕ) (fs : List Field) → ((i : ℕ) → getD m i 0 < 256) → fieldsOf (payloadOf m) ≡ some fs → NoErrors needs (typeOf m) fs → IsCommand m fs
 
 -- Of one field: but for those bytes, it is what the command writer writes.
 pub record IsWritten (m : List ℕ) (f : Field) : Type 0 where
@@ -129,4 +150,5 @@ pub record IsWritten (m : List ℕ) (f : Field) : Type 0 where
 -- Proof: Written `one-obeyed-is-written`.
 abbrev pub OneObeyedIsWritten : Type 0
 OneObeyedIsWritten =
-    (m : List ℕ) (f : Field) → ((i : ℕ) → getD m i 0 < 256) → fieldsOf (payloadOf m) ≡ some (f ∷ []) → fieldError (commandOf (typeOf m) f) ≡ 0 → IsWritten m f
+    (needs : Bool) (m : List ℕ) (f : Field) → ((i : ℕ) → getD m i 0 < 256) → fieldsOf (payloadOf m) ≡ some (f ∷ [])
+    → fieldError needs (commandOf (typeOf m) f) ≡ 0 → IsWritten m f

@@ -1,4 +1,4 @@
--- Document 01, "Handling one message", and request 02: the reply reader, which reads one row of a reply.
+-- Document 01, "Handling one message", and requests 02 and 03: the reply reader, which reads one row of a reply.
 use mathlib.Core.Bool.{Bool, true, false, _&&_, _||_, not}
 use mathlib.Core.List.{List, [], _∷_}
 use mathlib.Core.Option.{Option, none, some}
@@ -14,8 +14,18 @@ use Rattle.page.specs.Settings.{settingOf, codeOf, valueSize, allowed}
 use Rattle.message.specs.Fields.{Field, fieldsOf}
 use Rattle.message.specs.Message.{typeOf, payloadOf}
 use Rattle.message.specs.Whole.{wholeNumber}
-use Rattle.command.specs.Errors.{mostFields, isKind}
+use Rattle.command.specs.Errors.{mostFields}
+use Rattle.command.specs.Numbers.{numberedKind}
 use Rattle.client.specs.declared.reader.Reply.{Reply}
+
+-- ---- the types
+
+-- "The reply reader takes 7C rows as type 02's": with values, and several.
+abbrev pub carriesValues : ℕ → Bool
+carriesValues kind = eqb kind 0x02 || eqb kind numberedKind
+
+abbrev pub severalRows : ℕ → Bool
+severalRows kind = eqb kind 0x01 || carriesValues kind
 
 -- ---- a row
 
@@ -25,9 +35,9 @@ pub record Row : Type 0 where
   pub error : ℕ
   pub value : Stored
 
--- The errors of the table, 0 to 4.
+-- The errors of the table, 0 to 5.
 abbrev pub isError : ℕ → Bool
-isError e = leb e 4
+isError e = leb e 5
 
 abbrev pub echoIn : Field → ℕ
 echoIn f = getD (f .content) 0 0
@@ -52,9 +62,9 @@ abbrev pub valueIf : Bool → Stored → Stored
 valueIf true v = v
 valueIf false v = Absent
 
--- The value that a second field adds to a row: in type 02 and with error 0, where its code is the echo.
+-- The value that a second field adds to a row: in types 02 and 7C and with error 0, where its code is the echo.
 unfoldable pub valueAfter : ℕ → Field → Field → Stored
-valueAfter kind f g = valueIf (eqb kind 0x02 && eqb (errorIn f) 0) (valueIn (settingOf (echoIn f)) g)
+valueAfter kind f g = valueIf (carriesValues kind && eqb (errorIn f) 0) (valueIn (settingOf (echoIn f)) g)
 
 -- ---- the rows of a reply
 
@@ -90,9 +100,9 @@ rowRead kind [] k = noReply 27
 rowRead kind (r ∷ rs) zero = record { number = 0; kind = kind; echo = r .echo; error = r .error; value = r .value }
 rowRead kind (r ∷ rs) (suc k) = rowRead kind rs k
 
--- A reply has 1 to 16 rows, several only in types 01 and 02.
+-- A reply has 1 to 16 rows, several only in types 01, 02 and 7C.
 abbrev pub rowsWrong : ℕ → ℕ → Bool
-rowsWrong kind n = eqb n 0 || ltb mostFields n || (ltb 1 n && not (isKind kind))
+rowsWrong kind n = eqb n 0 || ltb mostFields n || (ltb 1 n && not (severalRows kind))
 
 abbrev pub refuseReply : Bool → ℕ → Reply → Reply
 refuseReply true n next = noReply n

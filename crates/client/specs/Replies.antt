@@ -1,7 +1,7 @@
 -- What is proved of the reply reader, beyond the contract of the code. The statement names its proof, a term of that type in a file
 -- of proofs/.
 use mathlib.Core.Path.{_≡_}
-use mathlib.Core.Bool.{true, cond}
+use mathlib.Core.Bool.{Bool, true, false, not, cond}
 use mathlib.Core.List.{List, [], _∷_}
 use Prim.Native.Nat.{ℕ, zero, suc}
 use lib.Dec.{eqb}
@@ -15,9 +15,11 @@ use Rattle.command.specs.declared.command.Command.{Command}
 use Rattle.command.specs.declared.command.Subject.{Subject}
 use Rattle.command.specs.declared.command.Subject.the-variants.{Ping, Setting as About, Unknown}
 use Rattle.command.specs.Command.{subjectOf, commandsOf}
-use Rattle.command.specs.Errors.{fieldError, messageError}
+use Rattle.command.specs.Errors.{fieldError, commandError}
+use Rattle.command.specs.Numbers.{numberedKind, numberOf, innerKind, innerPayload, numberError}
 use Rattle.command.specs.Effects.{workingValue, settingsAllowed}
-use Rattle.command.specs.Outcome.{Access, State, Received, fieldOutcome, fieldsIn}
+use Rattle.command.specs.Outcome.{Access, State, Received, needsNumber, fieldOutcome}
+use Rattle.command.specs.Handle.{fieldsIn, spent}
 use Rattle.command.specs.Answer.{pageAccess}
 use Rattle.command.specs.Theorems.{replyTo}
 use Rattle.client.specs.Reader.{Row, rowRead, replyRead}
@@ -28,25 +30,43 @@ reportOn Ping function w = Absent
 reportOn (About s) function w = cond (eqb function 2) (Value (workingValue w s)) Absent
 reportOn Unknown function w = Absent
 
-abbrev pub reported : Command → Settings → Stored
-reported c w = cond (eqb (fieldError c) 0) (reportOn (subjectOf (c .kind) (c .code)) (c .function) w) Absent
+abbrev pub reported : ℕ → Command → Settings → Stored
+reported error c w = cond (eqb error 0) (reportOn (subjectOf (c .kind) (c .code)) (c .function) w) Absent
 
--- The rows of fields handled in order: the code, the error, and the value at its turn.
-abbrev pub fieldRows : {P : Type 0} → Access P → State P → List Command → List Row
-fieldRows access x [] = []
-fieldRows access x (c ∷ cs) = record { echo = c .code; error = fieldError c; value = reported c (x .settings) } ∷ fieldRows access (fieldOutcome access x c .next) cs
+-- One row without a value.
+abbrev pub plainRow : ℕ → ℕ → List Row
+plainRow echo error = record { echo = echo; error = error; value = Absent } ∷ []
 
--- Those of a message: one where it is refused as a whole.
-abbrev pub messageRowsOn : {P : Type 0} → ℕ → Access P → State P → Received → List Row
-messageRowsOn zero access x m = fieldRows access x (commandsOf (m .kind) (fieldsIn (fieldsOf (m .payload))))
-messageRowsOn (suc n) access x m = record { echo = getD (m .payload) 0 0; error = suc n; value = Absent } ∷ []
+module _ {P : Type 0} (access : Access P) where
+  -- The rows of fields handled in order: the code, the error, and the value at its turn.
+  abbrev pub fieldRows : Bool → State P → List Command → List Row
+  fieldRows guarded x [] = []
+  fieldRows guarded x (c ∷ cs) =
+      let error : ℕ = fieldError (needsNumber access guarded (x .page)) c in
+      record { echo = c .code; error = error; value = reported error c (x .settings) } ∷ fieldRows guarded (fieldOutcome access guarded x c .next) cs
 
-abbrev pub messageRows : {P : Type 0} → Access P → State P → Received → List Row
-messageRows access x m = messageRowsOn (messageError (m .good) (m .kind) (m .payload)) access x m
+  -- Those of a command: one where it is refused as a whole.
+  abbrev pub commandRowsOn : ℕ → Bool → State P → ℕ → List ℕ → List Row
+  commandRowsOn zero guarded x kind payload = fieldRows guarded x (commandsOf kind (fieldsIn (fieldsOf payload)))
+  commandRowsOn (suc n) guarded x kind payload = plainRow (getD payload 0 0) (suc n)
+
+  abbrev pub commandRows : Bool → State P → ℕ → List ℕ → List Row
+  commandRows guarded x kind payload = commandRowsOn (commandError kind payload) guarded x kind payload
+
+  -- Those of type 7C: one where the number is refused, else those of the command inside, on the page with the number.
+  abbrev pub numberedRowsOn : ℕ → State P → List ℕ → List Row
+  numberedRowsOn zero x payload = commandRows false (spent access x (numberOf payload)) (innerKind payload) (innerPayload payload)
+  numberedRowsOn (suc n) x payload = plainRow (getD (innerPayload payload) 0 0) (suc n)
+
+  abbrev pub messageRows : ℕ → State P → Received → List Row
+  messageRows port x m =
+      cond (not (m .good)) (plainRow (getD (m .payload) 0 0) 1)
+      (cond (eqb (m .kind) numberedKind) (numberedRowsOn (numberError (access .lastNumber (x .page)) (m .payload)) x (m .payload))
+      (commandRows (eqb port 0) x (m .kind) (m .payload)))
 
 -- Every reply that handling writes is read back, row by row, to its type, echoes, errors and values, and has no further row (27).
 -- Proof: Replies `replies-read`.
 abbrev pub RepliesRead : Type 0
 RepliesRead =
     (port : ℕ) (m : Received) (w : Settings) (page : List ℕ) (k : ℕ) → sound page ≡ true → settingsAllowed w ≡ true
-    → replyRead (replyTo port m w page) k ≡ rowRead (m .kind) (messageRows (pageAccess port) (record { settings = w; page = page }) m) k
+    → replyRead (replyTo port m w page) k ≡ rowRead (m .kind) (messageRows pageAccess port (record { settings = w; page = page }) m) k

@@ -9,7 +9,7 @@ use Rattle.page.specs.declared.setting.Setting.{Setting}
 use Rattle.page.specs.declared.setting.Coded.{Coded}
 use Rattle.page.specs.declared.setting.Coded.the-variants.{Setting as Known, Nothing}
 use Rattle.page.specs.Settings.{settingOf, codeOf, valueSize, allowed}
-use Rattle.client.specs.Reader.{Row, isError, valueOn}
+use Rattle.client.specs.Reader.{carriesValues, Row, isError, valueOn}
 
 -- Do the bytes start with a field of this setting, with its value size and an allowed value?
 unfoldable pub startsWithValue : Setting → List ℕ → Bool
@@ -27,7 +27,7 @@ codedSize (Known s) bs = sizeIf (startsWithValue s bs) (valueSize s + 2)
 
 -- The size of the field behind an echo and an error that adds a value to them; 0 where none does.
 unfoldable pub valueFieldSize : ℕ → ℕ → ℕ → List ℕ → ℕ
-valueFieldSize kind echo error bs = sizeIf (eqb kind 0x02 && eqb error 0) (codedSize (settingOf echo) bs)
+valueFieldSize kind echo error bs = sizeIf (carriesValues kind && eqb error 0) (codedSize (settingOf echo) bs)
 
 -- Do the bytes start with a field 80 of size 2, with an error of the table?
 abbrev pub startsWithRow : List ℕ → Bool

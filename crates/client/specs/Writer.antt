@@ -1,9 +1,11 @@
--- Document 01, "Handling one message": the command writer; and for request 02 one field more behind a payload.
+-- Document 01, "Handling one message": the command writer; for request 02 one field more behind a payload, for request 03 a number
+-- in front of a command.
 use mathlib.Core.Bool.{Bool, true, false, _&&_, _||_, not}
-use mathlib.Core.List.{List, [], _∷_}
+use mathlib.Core.List.{List, [], _∷_, _++_}
 use Prim.Native.Nat.{ℕ, _+_}
 use lib.Dec.{eqb, ltb}
 use lib.ListN.{length}
+use Rattle.word.specs.Word.{wordBytes}
 use Rattle.page.specs.Settings.{settingOf, codeOf, allowed, valueBytes}
 use Rattle.message.specs.Message.{messageOf}
 use Rattle.message.specs.Write.{Writing, refuseWriting, writingOf, putAt}
@@ -11,6 +13,7 @@ use Rattle.command.specs.declared.command.Subject.{Subject}
 use Rattle.command.specs.declared.command.Subject.the-variants.{Ping, Setting as About, Unknown}
 use Rattle.command.specs.Command.{subjectOn, subjectOf}
 use Rattle.command.specs.Errors.{isFunction}
+use Rattle.command.specs.Numbers.{numberedKind}
 
 abbrev pub pingOr : Bool → Subject → Subject
 pingOr true s = Ping
@@ -50,6 +53,21 @@ commandMessage code function value = messageOf (kindFor (codeSubject code)) (fie
 unfoldable pub commandWriting : ℕ → ℕ → ℕ → List ℕ → Writing
 commandWriting code function value room =
     refuseWriting (not (acceptable (codeSubject code) function value)) 28 room (writingOf (commandMessage code function value) room)
+
+-- ---- a numbered command
+
+-- "A four-byte number, then a command's type and its fields."
+abbrev pub numberedPayload : ℕ → ℕ → List ℕ → List ℕ
+numberedPayload number kind fields = wordBytes number ++ (kind ∷ fields)
+
+unfoldable pub numberedMessage : ℕ → ℕ → ℕ → ℕ → List ℕ
+numberedMessage number code function value =
+    messageOf numberedKind (numberedPayload number (kindFor (codeSubject code)) (fieldFor (codeSubject code) function value))
+
+-- Its writer: 28, then 18.
+unfoldable pub numberedWriting : ℕ → ℕ → ℕ → ℕ → List ℕ → Writing
+numberedWriting number code function value room =
+    refuseWriting (not (acceptable (codeSubject code) function value)) 28 room (writingOf (numberedMessage number code function value) room)
 
 -- ---- a command of several fields
 

@@ -6,3 +6,4 @@ pub use reader::Reply;
 pub use reader::read_reply;
 pub use writer::append_field;
 pub use writer::write_command;
+pub use writer::write_numbered;

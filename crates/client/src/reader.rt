@@ -4,7 +4,7 @@ ghost use mathlib.Core.List.{[], _∷_};
 ghost use Prim.Native.Nat.{_≤_};
 ghost use lib.ListN.{length};
 ghost use Rattle.message.specs.Fields.{fieldsOf};
-ghost use Rattle.client.specs.Reader.{noReply, rowsIn, rowRead, rowsWrong, rowsRead, replyRead};
+ghost use Rattle.client.specs.Reader.{carriesValues, noReply, rowsIn, rowRead, rowsWrong, rowsRead, replyRead};
 ghost use Rattle.client.specs.Rows.{startsWithValue, valueFieldSize, rowSize, rowIn};
 use message::check_message;
 use page::Coded;
@@ -92,6 +92,9 @@ fn rows_wrong(kind: u8, n: usize) -> bool
     if kind == 0x01 {
         return false;
     }
+    if kind == 0x7C {
+        return false;
+    }
     kind != 0x02
 }
 
@@ -109,18 +112,18 @@ fn row_size(kind: u8, bytes: &[u8]) -> usize
         return 0;
     }
     let error = bytes[3];
-    if 4 < error {
+    if 5 < error {
         return 0;
     }
     4 + value_field_size(kind, bytes[2], error, &bytes[4..])
 }
 
-// The size of the field at the front of `bytes` that adds a value to the echo and the error before it: in type 02 and with error 0,
-// where its code is the echo. Where it adds none, 0: it is the next row's.
+// The size of the field at the front of `bytes` that adds a value to the echo and the error before it: in types 02 and 7C and with
+// error 0, where its code is the echo. Where it adds none, 0: it is the next row's.
 fn value_field_size(kind: u8, echo: u8, error: u8, bytes: &[u8]) -> usize
     ensures { λ r. ⌜ (r ≡ valueFieldSize kind echo error (now (bytes .entry))) × (r ≤ 6) ⌝ }
 {
-    if kind != 0x02 {
+    if !carries_values(kind) {
         return 0;
     }
     if error != 0 {
@@ -134,6 +137,16 @@ fn value_field_size(kind: u8, echo: u8, error: u8, bytes: &[u8]) -> usize
     } else {
         0
     }
+}
+
+// Whether the rows of this type may carry values. Type 7C has them for a command of type 02 inside; the rows do not say its type.
+fn carries_values(kind: u8) -> bool
+    ensures { λ r. ⌜ r ≡ carriesValues kind ⌝ }
+{
+    if kind == 0x02 {
+        return true;
+    }
+    kind == 0x7C
 }
 
 // Whether `bytes` start with a field of this setting, with its value size and an allowed value.

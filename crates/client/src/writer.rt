@@ -1,4 +1,4 @@
-// The command writer, and the writer of one field more.
+// The command writer, with a number and without, and the writer of one field more.
 ghost use mathlib.Core.Path.{_≡_};
 ghost use mathlib.Core.Bool.{not};
 ghost use mathlib.Core.List.{[], _∷_};
@@ -7,7 +7,7 @@ ghost use lib.ListN.{length, take};
 ghost use Rattle.word.specs.Word.{wordBytes};
 ghost use Rattle.message.specs.Write.{refuseWriting};
 ghost use Rattle.command.specs.Command.{subjectOf};
-ghost use Rattle.client.specs.Writer.{codeSubject, acceptable, fieldFor, commandWriting, behindWriting, fieldWriting};
+ghost use Rattle.client.specs.Writer.{codeSubject, acceptable, fieldFor, commandWriting, numberedWriting, behindWriting, fieldWriting};
 use command::Subject;
 use command::subject_of;
 use message::Written;
@@ -31,6 +31,25 @@ pub fn write_command(code: u8, function: u8, value: u32, room: &mut [u8]) -> Wri
     write_message(kind, first_bytes(&field, appended.length), room)
 }
 
+// Writes the same command behind a number, as a message of type 7C: the number, the command's type, its field.
+pub fn write_numbered(number: u32, code: u8, function: u8, value: u32, room: &mut [u8]) -> Written
+    ensures { λ r. ⌜ record { answer = r; room = now (room .exit) } ≡ numberedWriting number code function value (now (room .entry)) ⌝ }
+{
+    let kind = kind_of(code);
+    // 5 bytes in front of the field, which has at most 7
+    let mut payload = [0u8; 12];
+    payload[0] = low(number / 16777216);
+    payload[1] = low(number / 65536);
+    payload[2] = low(number / 256);
+    payload[3] = low(number);
+    payload[4] = kind;
+    let appended = append_field(kind, code, function, value, 5, &mut payload);
+    if appended.number != 0 {
+        return refused();
+    }
+    write_message(0x7C, first_bytes(&payload, appended.length), room)
+}
+
 fn first_bytes(s: &[u8], n: usize) -> &[u8]
     requires { ⌜ n ≤ length (now s) ⌝ }
     ensures { λ r. ⌜ now r ≡ take n (now (s .entry)) ⌝ }
@@ -46,8 +65,8 @@ fn kind_of(code: u8) -> u8
 }
 
 // Writes one field of a command behind the first `length` bytes of `room`, a payload to be, and answers the payload's length with it.
-// `write_message` makes a message of it, of the same type. As in a command of its own: function 1 with the value, the functions 2
-// to 5 without, Ping without both.
+// `write_message` makes a message of it, of the same type; behind a number and the type, 5 bytes, one of type 7C. As in a command of
+// its own: function 1 with the value, the functions 2 to 5 without, Ping without both.
 pub fn append_field(
     kind: u8,
     code: u8,

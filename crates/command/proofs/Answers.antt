@@ -2,12 +2,12 @@
 use Prim.Native.Nat.{ℕ, zero, suc, _+_, _-_, _≤_, _<_}
 use native.Mathlib.Omega.{arith}
 use mathlib.Core.Path.{_≡_, refl, _∙_, ap}
-use mathlib.Core.Bool.{Bool, true, false, or-true, or-false}
+use mathlib.Core.Bool.{Bool, true, false, _&&_, not, cond, or-true, or-false, and-true, and-false}
 use mathlib.Core.List.{List, [], _++_, append-assoc, append-nil}
 use lib.ListN.{length, getD, take, drop, take-append-drop}
 use lib.Seq.{length-take-le, take-at, drop-at}
-use lib.Dec.{ltb}
-use borrow.Author.Tests.{lt-ltb, le-ltb}
+use lib.Dec.{eqb}
+use borrow.Author.Tests.{lt-ltb, le-ltb, ne-eqb}
 use Rattle.page.specs.declared.setting.Setting.{Setting}
 use Rattle.page.specs.declared.setting.Setting.the-variants.{Baud, Accelerometer, Gyroscope}
 use Rattle.page.specs.declared.setting.Values.{Values}
@@ -16,24 +16,28 @@ use Rattle.page.specs.Page.{withValue}
 use Rattle.page.specs.Lookup.{valuesIn}
 use Rattle.page.specs.Sound.{PageWriting, pageWriting}
 use Rattle.message.specs.declared.write.Written.{Written}
-use Rattle.message.specs.Fields.{Field, fieldsOf}
+use Rattle.message.specs.Fields.{fieldsOf}
 use Rattle.message.specs.Message.{messageOf, typeOf, payloadOf}
 use Rattle.message.specs.Write.{doneWriting, sealing, putAt}
 use Rattle.message.proofs.Writes.{message-length}
 use Rattle.command.specs.declared.answer.Answer.{Answer}
+use Rattle.command.specs.declared.number.Opened.{Opened}
 use Rattle.command.specs.declared.place.Progress.{Progress}
 use Rattle.command.specs.declared.command.Subject.{Subject}
 use Rattle.command.specs.declared.command.Subject.the-variants.{Ping, Setting as About, Unknown}
 use Rattle.command.specs.declared.settings.Settings.{Settings}
 use Rattle.command.specs.declared.command.Command.{Command}
 use Rattle.command.specs.Command.{valueFor, subjectOf, commandsOf}
-use Rattle.command.specs.Errors.{fieldError, messageError}
+use Rattle.command.specs.Errors.{fieldError, commandError}
+use Rattle.command.specs.Numbers.{numberedKind, numberError}
 use Rattle.command.specs.Effects.{workingValue, withWorking, Fits, valueField, functionEffect, fieldEffect, effectOn, effectOf}
-use Rattle.command.specs.Outcome.{Outcome, receivedOf, idle, thenOutcome, replyRow, fieldsIn, effectOutcome, rowOutcome, fieldOutcome, fieldsOutcome, messageOn, messageOutcome}
-use Rattle.command.specs.Place.{Placed, stateOf, placed}
-use Rattle.command.specs.Answer.{loadedFrom, savedOn, pageAccess, replyRoom, Answering, answerWith, answerOn, answering}
+use Rattle.command.specs.Outcome.{Outcome, receivedOf, idle, thenOutcome, replyRow, effectOutcome, rowOutcome, needsNumber, fieldOutcome, fieldsOutcome}
+use Rattle.command.specs.Handle.{fieldsIn, refusedOutcome, commandOn, commandOutcome, numberedOn, numberedOutcome, messageOutcome}
+use Rattle.command.specs.Place.{Placed, stateOf, placed, Opening, opening, numberOpening, openingOf, openedOn, openedOutcome}
+use Rattle.command.specs.Answer.{loadedFrom, savedOn, numberOn, pageAccess, replyRoom, Answering, answerWith, answering}
 use Rattle.command.proofs.Places.{put-length, put-behind, placed-then}
-use Rattle.command.proofs.Rows.{function-row, outcomes-most}
+use Rattle.command.proofs.Rows.{function-row, message-most}
+use Rattle.command.proofs.Spends.{inner-payload}
 
 -- ---- the value of a command, and its row
 
@@ -132,11 +136,11 @@ module _ (p : Progress) (room page : List ℕ) where
         only (suc (suc (suc (suc (suc f))))) n m = refl
 
   -- Any field.
-  module _ (c : Command) (error : ℕ) (es : error ≡ fieldError c) (q : Progress) (mid : List ℕ)
+  module _ (guarded : Bool) (c : Command) (error : ℕ) (es : error ≡ fieldError (needsNumber pageAccess guarded page) c) (q : Progress) (mid : List ℕ)
       (e : q ≡ record { end = p .end + 4; saved = p .saved; settings = p .settings }) (m : mid ≡ putAt (p .end) (replyRow (c .code) error []) room) where
-    pub field-refused : (port : ℕ) → (error ≡ 0 → ⊥) → record { done = q; room = mid; page = page } ≡ placed p (fieldOutcome (pageAccess port) (stateOf p page) c) room
+    pub field-refused : (error ≡ 0 → ⊥) → record { done = q; room = mid; page = page } ≡ placed p (fieldOutcome pageAccess guarded (stateOf p page) c) room
     unfolding fieldOutcome effectOf
-    field-refused port n = placed-row q mid (c .code) error e m ∙ rw (← es) (go error n)
+    field-refused n = placed-row q mid (c .code) error e m ∙ rw (← es) (go error n)
       where
         go : (n : ℕ) → (n ≡ 0 → ⊥) → placed p (rowOutcome (c .code) n (idle (stateOf p page))) room
             ≡ placed p (rowOutcome (c .code) n (effectOutcome savedOn (effectOn n (fieldEffect (subjectOf (c .kind) (c .code)) (loadedFrom page) (p .settings) c) (p .settings)) (stateOf p page))) room
@@ -150,19 +154,19 @@ module _ (p : Progress) (room page : List ℕ) where
         omega arith
 
     module _ (zero-error : error ≡ 0) (subject : Subject) (ss : subject ≡ subjectOf (c .kind) (c .code)) where
-      pub field-ping : (port : ℕ) → subject ≡ Ping → record { done = q; room = mid; page = page } ≡ placed p (fieldOutcome (pageAccess port) (stateOf p page) c) room
+      pub field-ping : subject ≡ Ping → record { done = q; room = mid; page = page } ≡ placed p (fieldOutcome pageAccess guarded (stateOf p page) c) room
       unfolding fieldOutcome effectOf
-      field-ping port k = placed-row q mid (c .code) error e m ∙ rw (← es, zero-error, ← ss, k)
+      field-ping k = placed-row q mid (c .code) error e m ∙ rw (← es, zero-error, ← ss, k)
 
-      pub field-unknown : (port : ℕ) → subject ≡ Unknown → record { done = q; room = mid; page = page } ≡ placed p (fieldOutcome (pageAccess port) (stateOf p page) c) room
+      pub field-unknown : subject ≡ Unknown → record { done = q; room = mid; page = page } ≡ placed p (fieldOutcome pageAccess guarded (stateOf p page) c) room
       unfolding fieldOutcome effectOf
-      field-unknown port k = placed-row q mid (c .code) error e m ∙ rw (← es, zero-error, ← ss, k)
+      field-unknown k = placed-row q mid (c .code) error e m ∙ rw (← es, zero-error, ← ss, k)
 
-      pub field-setting : (port : ℕ) → p .end + 10 ≤ length room → (s : Setting) → subject ≡ About s → (done : Placed)
+      pub field-setting : p .end + 10 ≤ length room → (s : Setting) → subject ≡ About s → (done : Placed)
           → done ≡ placed q (effectOutcome savedOn (functionEffect (c .function) (loadedFrom page) (q .settings) s (valueFor s c)) (stateOf q page)) mid
-          → done ≡ placed p (fieldOutcome (pageAccess port) (stateOf p page) c) room
+          → done ≡ placed p (fieldOutcome pageAccess guarded (stateOf p page) c) room
       unfolding fieldOutcome effectOf
-      field-setting port h s k done d =
+      field-setting h s k done d =
           let a : Outcome (List ℕ) = rowOutcome (c .code) 0 (idle (stateOf p page)) in
           let b : Outcome (List ℕ) = effectOutcome savedOn (functionEffect (c .function) (loadedFrom page) (p .settings) s (valueFor s c)) (stateOf p page) in
           let r : record { done = q; room = mid; page = page } ≡ placed p a room = rw zero-error at (placed-row q mid (c .code) error e m) in
@@ -197,83 +201,121 @@ sealed-rows kind rows room few large =
     let b : drop (n + 6) mid ≡ drop (n + 6) room = rw six (put-behind 4 rows room h 2) in
     rw (le-ltb 255 n (omega arith), ml, le-ltb (length room) (n + 6) (omega arith), t, l, b)
 
--- A message that is refused as a whole.
-module _ (kind echo error : ℕ) (w : Settings) (room : List ℕ) (large : replyRoom ≤ length room) (p : Progress) (mid : List ℕ)
-    (e : p ≡ record { end = 4 + 4; saved = false; settings = w }) (q : mid ≡ putAt 4 (replyRow echo error []) room) where
-  pub refused-ready : (4 ≤ p .end) × (p .end < 260) × (p .end + 2 ≤ length mid)
-  refused-ready =
-      let l : length mid ≡ length room = ap length q ∙ put-length 4 (replyRow echo error []) room (omega arith) in
-      let d : p .end ≡ 8 = ap (λ (p : Progress). p .end) e in
-      (omega arith, omega arith, omega arith)
+-- ---- commands
 
-  pub refused-done : (a : Answer) → a ≡ record { saved = p .saved; settings = p .settings } → (after : List ℕ) → after ≡ sealing kind (p .end - 4) mid .room
-      → (a ≡ record { saved = false; settings = w }) × (after ≡ doneWriting (messageOf kind (replyRow echo error [])) room .room)
-  refused-done a at after left =
-      let m : p .end - 4 ≡ 4 = ap (λ (p : Progress). p .end - 4) e in
-      (rw (at, e), left ∙ rw (m, q) (sealed-rows kind (replyRow echo error []) room (omega arith) large))
-
--- One whose fields fill its payload.
-module _ (port kind : ℕ) (w : Settings) (fs : List Field) (room page : List ℕ) (few : length fs ≤ 16) (large : replyRoom ≤ length room) where
-  abbrev filled : Outcome (List ℕ)
-  filled = fieldsOutcome (pageAccess port) (record { settings = w; page = page }) (commandsOf kind fs)
-
-  few-rows : length (filled .rows) ≤ 160
-  few-rows = omega (arith, outcomes-most (pageAccess port) (record { settings = w; page = page }) kind fs)
-
-  module _ (p : Progress) (mid next : List ℕ) (q : record { done = p; room = mid; page = next } ≡ placed (record { end = 4; saved = false; settings = w }) filled room) where
-    pub filled-ready : (4 ≤ p .end) × (p .end < 260) × (p .end + 2 ≤ length mid)
-    filled-ready =
-        let f = few-rows in
-        let d : p .end ≡ 4 + length (filled .rows) = ap (λ (q : Placed). q .done .end) q in
-        let l : length mid ≡ length room = ap (λ (q : Placed). length (q .room)) q ∙ put-length 4 (filled .rows) room (omega arith) in
-        (omega arith, omega arith, omega arith)
-
-    pub filled-done : (a : Answer) → a ≡ record { saved = p .saved; settings = p .settings } → (after : List ℕ) → after ≡ sealing kind (p .end - 4) mid .room
-        → record { answer = a; room = after; page = next } ≡ answerWith kind filled room
-    filled-done a at after left =
-        let z : 4 + length (filled .rows) - 4 ≡ length (filled .rows) = omega arith in
-        rw (at, left) (ap sealedAs q ∙ rw (z, sealed-rows kind (filled .rows) room few-rows large))
+module _ (p : Progress) (room page : List ℕ) where
+  -- A command refused as a whole, and one whose fields are reached.
+  module _ (guarded : Bool) (kind : ℕ) (payload : List ℕ) (error : ℕ) (es : error ≡ commandError kind payload) where
+    pub command-refused : (error ≡ 0 → ⊥) → (echo : ℕ) → echo ≡ getD payload 0 0 → (done : Placed)
+        → done ≡ placed p (refusedOutcome echo error (stateOf p page)) room
+        → done ≡ placed p (commandOutcome pageAccess guarded (stateOf p page) kind payload) room
+    unfolding commandOutcome
+    command-refused n echo cs done h = h ∙ rw (← es, cs) (go error n)
       where
-        sealedAs : Placed → Answering
-        sealedAs q =
-            record {
-              answer = record { saved = q .done .saved; settings = q .done .settings };
-              room = sealing kind (q .done .end - 4) (q .room) .room;
-              page = q .page;
-            }
+        go : (error : ℕ) → (error ≡ 0 → ⊥) → placed p (refusedOutcome (getD payload 0 0) error (stateOf p page)) room
+            ≡ placed p (commandOn pageAccess error guarded (stateOf p page) kind payload) room
+        go zero n = absurd (n refl)
+        go (suc k) n = refl
+
+    pub command-reached : error ≡ 0 → (done : Placed)
+        → done ≡ placed p (fieldsOutcome pageAccess guarded (stateOf p page) (commandsOf kind (fieldsIn (fieldsOf payload)))) room
+        → done ≡ placed p (commandOutcome pageAccess guarded (stateOf p page) kind payload) room
+    unfolding commandOutcome
+    command-reached z done h = h ∙ rw (← es, z)
+
+  -- What a message was opened to.
+  module _ (port : ℕ) (o : Opened) (part : List ℕ) where
+    pub opened-refused : (o .error ≡ 0 → ⊥) → (echo : ℕ) → echo ≡ getD part 0 0 → (done : Placed)
+        → done ≡ placed p (refusedOutcome echo (o .error) (stateOf p page)) room → done ≡ placed p (openedOutcome port o (stateOf p page) part) room
+    opened-refused n echo cs done h = h ∙ rw cs (go (o .error) n)
+      where
+        go : (error : ℕ) → (error ≡ 0 → ⊥) → placed p (refusedOutcome (getD part 0 0) error (stateOf p page)) room
+            ≡ placed p (openedOn error port o (stateOf p page) part) room
+        go zero n = absurd (n refl)
+        go (suc k) n = refl
+
+    pub opened-command : o .error ≡ 0 → (guarded : Bool) → guarded ≡ eqb port 0 && not (o .numbered) → (done : Placed)
+        → done ≡ placed p (commandOutcome pageAccess guarded (stateOf p page) (o .kind) part) room
+        → done ≡ placed p (openedOutcome port o (stateOf p page) part) room
+    opened-command z guarded g done h = h ∙ rw (g, z)
+
+module _ (port : ℕ) (numbered : Bool) where
+  pub guard-first : port ≡ 0 → not numbered ≡ eqb port 0 && not numbered
+  guard-first e = rw e
+
+  pub guard-second : (port ≡ 0 → ⊥) → false ≡ eqb port 0 && not numbered
+  guard-second n = rw (ne-eqb port 0 n)
 
 -- ---- any message
 
--- The answer to a message of this type and payload.
-abbrev answerTo : ℕ → Bool → ℕ → List ℕ → Settings → List ℕ → List ℕ → Answering
-answerTo port good kind payload w room page =
-    answerOn (ltb (length room) replyRoom) kind (messageOutcome (pageAccess port) (record { settings = w; page = page }) (record { good = good; kind = kind; payload = payload })) w room page
+-- What it was opened to is answered as the message.
+module _ (held chunk : List ℕ) (to port : ℕ) (good : Bool) (kind : ℕ) (ks : kind ≡ typeOf (held ++ chunk))
+    (ps : drop 4 (take to (held ++ chunk)) ≡ payloadOf (held ++ chunk)) (w : Settings) (room page : List ℕ) where
+  abbrev payload : List ℕ
+  payload = drop 4 (take to (held ++ chunk))
+
+  abbrev placedOpening : Opening → Placed
+  placedOpening z =
+      placed (record { end = 4; saved = z .opened .numbered; settings = w })
+      (openedOutcome port (z .opened) (record { settings = w; page = z .page }) (drop (z .opened .from) (take to (held ++ chunk)))) room
+
+  abbrev answered : Outcome (List ℕ) → Placed
+  answered o = placed (record { end = 4; saved = false; settings = w }) o room
+
+  number-answered : (n : ℕ) → placedOpening (numberOpening n kind payload page) ≡ answered (numberedOn pageAccess n (record { settings = w; page = page }) payload)
+  number-answered zero = rw (and-false (eqb port 0), inner-payload held chunk to)
+  number-answered (suc n) = rw (inner-payload held chunk to)
+
+  pub opening-answered : (o : Opened) (next : List ℕ) → record { opened = o; page = next } ≡ openingOf good kind payload page
+      → placedOpening (record { opened = o; page = next }) ≡ answered (messageOutcome pageAccess port (record { settings = w; page = page }) (receivedOf good (held ++ chunk)))
+  unfolding openingOf messageOutcome receivedOf numberedOutcome
+  opening-answered o next e = ap placedOpening e ∙ rw (← ks, ← ps) (go (not good) (eqb kind numberedKind))
+    where
+      go : (a b : Bool)
+          → placedOpening (cond a (opening 1 kind 4 false page) (cond b (numberOpening (numberError (numberOn page) payload) kind payload page) (opening 0 kind 4 false page)))
+          ≡ answered (cond a (refusedOutcome (getD payload 0 0) 1 (record { settings = w; page = page }))
+          (cond b (numberedOn pageAccess (numberError (numberOn page) payload) (record { settings = w; page = page }) payload)
+          (commandOutcome pageAccess (eqb port 0) (record { settings = w; page = page }) kind payload)))
+      go true b = refl
+      go false true = number-answered (numberError (numberOn page) payload)
+      go false false = rw (and-true (eqb port 0))
+
+-- ---- the answer
 
 module _ (port : ℕ) (m : List ℕ) (good : Bool) (w : Settings) (room page : List ℕ) where
   pub answer-small : length room < 166 → record { answer = record { saved = false; settings = w }; room = room; page = page } ≡ answering port (receivedOf good m) w room page
   unfolding answering
   answer-small h = rw (lt-ltb (length room) 166 h)
 
-  module _ (large : 166 ≤ length room) (kind : ℕ) (ks : kind ≡ getD m 2 0) (payload : List ℕ) (ps : payload ≡ payloadOf m)
-      (error : ℕ) (es : error ≡ messageError good kind payload) where
-    told : (done : Answering) → done ≡ answerTo port good kind payload w room page → done ≡ answering port (receivedOf good m) w room page
-    unfolding answering receivedOf
-    told done h = h ∙ ap (λ (k : ℕ). answerTo port good k payload w room page) ks ∙ ap (λ (l : List ℕ). answerTo port good (typeOf m) l w room page) ps
+  module _ (large : 166 ≤ length room) (kind : ℕ) (ks : kind ≡ typeOf m) where
+    abbrev outcome : Outcome (List ℕ)
+    outcome = messageOutcome pageAccess port (record { settings = w; page = page }) (receivedOf good m)
 
-    pub answer-refused : (error ≡ 0 → ⊥) → (echo : ℕ) → echo ≡ getD payload 0 0 → (a : Answer) (after : List ℕ)
-        → (a ≡ record { saved = false; settings = w }) × (after ≡ doneWriting (messageOf kind (replyRow echo error [])) room .room)
-        → record { answer = a; room = after; page = page } ≡ answering port (receivedOf good m) w room page
-    unfolding messageOutcome
-    answer-refused n echo cs a after h =
-        told (record { answer = a; room = after; page = page }) (rw (h .0, h .1, le-ltb (length room) 166 large, ← es, cs) (go error n))
-      where
-        go : (error : ℕ) → (error ≡ 0 → ⊥) → answerWith kind (rowOutcome (getD payload 0 0) error (idle (record { settings = w; page = page }))) room
-            ≡ answerWith kind (messageOn (pageAccess port) error (record { settings = w; page = page }) kind payload) room
-        go zero n = absurd (n refl)
-        go (suc k) n = refl
+    few-rows : length (outcome .rows) ≤ 160
+    few-rows = message-most pageAccess port (record { settings = w; page = page }) (receivedOf good m)
 
-    pub answer-read : error ≡ 0 → (done : Answering)
-        → done ≡ answerWith kind (fieldsOutcome (pageAccess port) (record { settings = w; page = page }) (commandsOf kind (fieldsIn (fieldsOf payload)))) room
-        → done ≡ answering port (receivedOf good m) w room page
-    unfolding messageOutcome
-    answer-read z done h = told done (h ∙ rw (le-ltb (length room) 166 large, ← es, z))
+    module _ (p : Progress) (mid next : List ℕ) (q : record { done = p; room = mid; page = next } ≡ placed (record { end = 4; saved = false; settings = w }) outcome room) where
+      pub answer-ready : (4 ≤ p .end) × (p .end < 260) × (p .end + 2 ≤ length mid)
+      answer-ready =
+          let f = few-rows in
+          let d : p .end ≡ 4 + length (outcome .rows) = ap (λ (q : Placed). q .done .end) q in
+          let l : length mid ≡ length room = ap (λ (q : Placed). length (q .room)) q ∙ put-length 4 (outcome .rows) room (omega arith) in
+          (omega arith, omega arith, omega arith)
+
+      pub answer-done : (a : Answer) → a ≡ record { saved = p .saved; settings = p .settings } → (after : List ℕ) → after ≡ sealing kind (p .end - 4) mid .room
+          → record { answer = a; room = after; page = next } ≡ answering port (receivedOf good m) w room page
+      unfolding answering receivedOf
+      answer-done a at after left =
+          let z : 4 + length (outcome .rows) - 4 ≡ length (outcome .rows) = omega arith in
+          let s : sealing kind (length (outcome .rows)) (putAt 4 (outcome .rows) room) .room ≡ doneWriting (messageOf kind (outcome .rows)) room .room =
+          sealed-rows kind (outcome .rows) room few-rows large in
+          let d : record { answer = a; room = after; page = next } ≡ answerWith kind outcome room = rw (at, left) (ap sealedAs q ∙ rw (z, s)) in
+          d ∙ rw (le-ltb (length room) 166 large, ks)
+        where
+          sealedAs : Placed → Answering
+          sealedAs q =
+              record {
+                answer = record { saved = q .done .saved; settings = q .done .settings };
+                room = sealing kind (q .done .end - 4) (q .room) .room;
+                page = q .page;
+              }

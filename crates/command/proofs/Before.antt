@@ -1,4 +1,4 @@
--- What request 02 left of the handling of one field.
+-- What requests 02 and 03 left of the handling of one field.
 use Prim.Native.Nat.{ℕ, _+_}
 use native.Mathlib.Omega.{arith}
 use mathlib.Core.Path.{_≡_, refl, sym, ap, _∙_}
@@ -12,11 +12,12 @@ use Rattle.stream.proofs.Bools.{differ}
 use Rattle.message.specs.Fields.{Field, fieldBytes, fieldsOf}
 use Rattle.message.proofs.FieldRows.{fields-fill, fields-back}
 use Rattle.command.specs.Command.{commandOf, subjectOf}
-use Rattle.command.specs.Errors.{isUnknown, fieldError, fieldsRefused, isKind, messageError}
-use Rattle.command.specs.Effects.{effectOf}
-use Rattle.command.specs.Outcome.{Access, State, Received, idle, rowOutcome, fieldOutcome, fieldsOutcome, messageOutcome}
+use Rattle.command.specs.Errors.{isUnknown, fieldError, fieldsRefused, isKind, commandError}
+use Rattle.command.specs.Numbers.{numberedKind}
+use Rattle.command.specs.Outcome.{Access, State, Received, idle, rowOutcome, fieldOutcome, fieldsOutcome}
+use Rattle.command.specs.Handle.{commandOutcome, messageOutcome}
 use Rattle.command.specs.Before.{errorBefore, outcomeBefore, OneAsBefore}
-use Rattle.command.proofs.Separate.{then-idle}
+use Rattle.command.proofs.Separate.{known-kind, then-idle}
 
 module _ {P : Type 0} (access : Access P) (x : State P) where
   -- ---- one field
@@ -38,64 +39,68 @@ module _ {P : Type 0} (access : Access P) (x : State P) where
     field-alone = ap fieldsOf (sym (append-nil (fieldBytes f))) ∙ fields-back (f ∷ []) (s, tt)
 
     module _ (g : good ≡ true) (k : isKind kind ≡ true) where
-      passes : messageError good kind (fieldBytes f) ≡ 0
-      unfolding messageError
-      passes = rw (g, k, field-alone, some-bytes)
+      passes : commandError kind (fieldBytes f) ≡ 0
+      unfolding commandError
+      passes = rw (k, field-alone, some-bytes)
 
-      now-one : messageOutcome access x alone ≡ fieldOutcome access x (commandOf kind f)
-      unfolding messageOutcome fieldsOutcome
-      now-one = rw (passes, field-alone) (then-idle access (fieldOutcome access x (commandOf kind f)))
+      now-one : messageOutcome access 1 x alone ≡ fieldOutcome access false x (commandOf kind f)
+      unfolding messageOutcome commandOutcome fieldsOutcome
+      now-one = rw (g, known-kind kind k, passes, field-alone) (then-idle access (fieldOutcome access false x (commandOf kind f)))
 
-      same-error : errorBefore alone ≡ fieldError (commandOf kind f)
+      same-error : errorBefore alone ≡ fieldError false (commandOf kind f)
       unfolding errorBefore fieldError commandOf
       same-error = rw (g, k, some-bytes, long, filled)
 
-      before-one : outcomeBefore access x alone ≡ fieldOutcome access x (commandOf kind f)
-      unfolding outcomeBefore fieldOutcome effectOf commandOf
+      before-one : outcomeBefore access x alone ≡ fieldOutcome access false x (commandOf kind f)
+      unfolding outcomeBefore fieldOutcome commandOf
       before-one = rw same-error
 
-      both-right : messageOutcome access x alone ≡ outcomeBefore access x alone
+      both-right : messageOutcome access 1 x alone ≡ outcomeBefore access x alone
       both-right = now-one ∙ sym before-one
 
   -- ---- sums wrong, another type
 
-  damaged : (m : Received) → m .good ≡ false → messageOutcome access x m ≡ outcomeBefore access x m
-  unfolding messageOutcome messageError outcomeBefore errorBefore
+  abbrev NotNumbered : Received → Type 0
+  NotNumbered m = m .kind ≡ numberedKind → ⊥
+
+  damaged : (m : Received) → m .good ≡ false → messageOutcome access 1 x m ≡ outcomeBefore access x m
+  unfolding messageOutcome outcomeBefore errorBefore
   damaged m g = rw g
 
-  other : (m : Received) → m .good ≡ true → isKind (m .kind) ≡ false → messageOutcome access x m ≡ outcomeBefore access x m
-  unfolding messageOutcome messageError outcomeBefore errorBefore
-  other m g k = rw (g, k)
+  other : (m : Received) → NotNumbered m → m .good ≡ true → isKind (m .kind) ≡ false → messageOutcome access 1 x m ≡ outcomeBefore access x m
+  unfolding messageOutcome commandOutcome commandError outcomeBefore errorBefore
+  other m n g k = rw (g, ne-eqb (m .kind) numberedKind n, k)
 
-  early : (m : Received) (g k : Bool) → m .good ≡ g → isKind (m .kind) ≡ k → not g || not k ≡ true → messageOutcome access x m ≡ outcomeBefore access x m
-  early m false k gs ks e = damaged m gs
-  early m true false gs ks e = other m gs ks
-  early m true true gs ks e = differ (sym e)
+  early : (m : Received) → NotNumbered m → (g k : Bool) → m .good ≡ g → isKind (m .kind) ≡ k → not g || not k ≡ true
+      → messageOutcome access 1 x m ≡ outcomeBefore access x m
+  early m n false k gs ks e = damaged m gs
+  early m n true false gs ks e = other m n gs ks
+  early m n true true gs ks e = differ (sym e)
 
   -- ---- any sums and type
 
-  one-field : (m : Received) (f : Field) → fieldsOf (m .payload) ≡ some (f ∷ []) → messageOutcome access x m ≡ outcomeBefore access x m
-  one-field m f e = go (m .good) (isKind (m .kind)) refl refl
+  one-field : (m : Received) → NotNumbered m → (f : Field) → fieldsOf (m .payload) ≡ some (f ∷ []) → messageOutcome access 1 x m ≡ outcomeBefore access x m
+  one-field m n f e = go (m .good) (isKind (m .kind)) refl refl
     where
       r : (fieldBytes f ≡ m .payload) × (f .size ≡ length (f .content))
       r = let h = fields-fill (m .payload) (f ∷ []) e in (sym (append-nil (fieldBytes f)) ∙ h .0, h .1 .0)
 
-      go : (g k : Bool) → m .good ≡ g → isKind (m .kind) ≡ k → messageOutcome access x m ≡ outcomeBefore access x m
+      go : (g k : Bool) → m .good ≡ g → isKind (m .kind) ≡ k → messageOutcome access 1 x m ≡ outcomeBefore access x m
       go false k gs ks = damaged m gs
-      go true false gs ks = other m gs ks
+      go true false gs ks = other m n gs ks
       go true true gs ks =
           let b = both-right (m .good) (m .kind) f (r .1) gs ks in
           let q : alone (m .good) (m .kind) f (r .1) ≡ m = ap (λ (l : List ℕ). record { good = m .good; kind = m .kind; payload = l }) (r .0) in
-          ap (messageOutcome access x) (sym q) ∙ b ∙ ap (outcomeBefore access x) q
+          ap (messageOutcome access 1 x) (sym q) ∙ b ∙ ap (outcomeBefore access x) q
 
-  no-field : (m : Received) → m .payload ≡ [] → messageOutcome access x m ≡ outcomeBefore access x m
-  unfolding messageOutcome messageError outcomeBefore errorBefore
-  no-field m e = go (m .good) (isKind (m .kind)) refl refl
+  no-field : (m : Received) → NotNumbered m → m .payload ≡ [] → messageOutcome access 1 x m ≡ outcomeBefore access x m
+  unfolding messageOutcome commandOutcome commandError outcomeBefore errorBefore
+  no-field m n e = go (m .good) (isKind (m .kind)) refl refl
     where
-      go : (g k : Bool) → m .good ≡ g → isKind (m .kind) ≡ k → messageOutcome access x m ≡ outcomeBefore access x m
+      go : (g k : Bool) → m .good ≡ g → isKind (m .kind) ≡ k → messageOutcome access 1 x m ≡ outcomeBefore access x m
       go false k gs ks = damaged m gs
-      go true false gs ks = other m gs ks
-      go true true gs ks = rw (gs, ks, e)
+      go true false gs ks = other m n gs ks
+      go true true gs ks = rw (gs, known-kind (m .kind) ks, ks, e)
 
   -- ---- a payload that fields do not fill
 
@@ -108,9 +113,9 @@ module _ {P : Type 0} (access : Access P) (x : State P) where
         go [] n = differ (sym n)
         go (b ∷ bs) n = ne-eqb (length (b ∷ bs)) 0 (λ z. omega arith)
 
-    unfilled : messageOutcome access x m ≡ rowOutcome (getD (m .payload) 0 0) 4 (idle x)
-    unfolding messageOutcome messageError
-    unfilled = rw (g, k, some-bytes-there, e)
+    unfilled : messageOutcome access 1 x m ≡ rowOutcome (getD (m .payload) 0 0) 4 (idle x)
+    unfolding messageOutcome commandOutcome commandError
+    unfilled = rw (g, known-kind (m .kind) k, k, some-bytes-there, e)
 
     -- Its size is not what is there.
     size-wrong : (l : List ℕ) → fieldsRefused (fieldsOf l) ≡ true → eqb (length l) 1 ≡ false → eqb (getD l 1 0 + 2) (length l) ≡ false
@@ -135,11 +140,11 @@ module _ {P : Type 0} (access : Access P) (x : State P) where
         go false us false os = rw (g, k, some-bytes-there, us, os, size-wrong (m .payload) e os)
 
 pub one-as-before : OneAsBefore
-one-as-before P access x m =
+one-as-before P access x m n =
     record {
-      one-field = one-field access x m;
-      no-field = no-field access x m;
-      refused = early access x m (m .good) (isKind (m .kind)) refl refl;
+      one-field = one-field access x m n;
+      no-field = no-field access x m n;
+      refused = early access x m n (m .good) (isKind (m .kind)) refl refl;
       unfilled = unfilled access x m;
       unfilled-before = unfilled-before access x m;
     }

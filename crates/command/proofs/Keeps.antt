@@ -75,10 +75,10 @@ module _ (loaded : Setting → ℕ) (w : Settings) (c : Command) where
 
 pub keeps-allowed : KeepsAllowed
 unfolding effectOf
-keeps-allowed loaded w c l e = go (fieldError c) refl
+keeps-allowed needs loaded w c l e = go (fieldError needs c) refl
   where
-    go : (n : ℕ) → fieldError c ≡ n → settingsAllowed (effectOn n (fieldEffect (subjectOf (c .kind) (c .code)) loaded w c) w .settings) ≡ true
-    go zero p = field-keeps loaded w c (subjectOf (c .kind) (c .code)) (accepted c p .field .value) l e
+    go : (n : ℕ) → fieldError needs c ≡ n → settingsAllowed (effectOn n (fieldEffect (subjectOf (c .kind) (c .code)) loaded w c) w .settings) ≡ true
+    go zero p = field-keeps loaded w c (subjectOf (c .kind) (c .code)) (accepted needs c p .field .value) l e
     go (suc n) p = e
 
 -- ---- saves
@@ -108,9 +108,9 @@ field-saves Unknown loaded w c t e = let z : _≡_ {A = ℕ} 0 1 = cc in absurd 
 
 pub saves-only : SavesOnly
 unfolding effectOf
-saves-only loaded w c s e = go (fieldError c) refl e
+saves-only needs loaded w c s e = go (fieldError needs c) refl e
   where
-    go : (n : ℕ) → fieldError c ≡ n → effectOn n (fieldEffect (subjectOf (c .kind) (c .code)) loaded w c) w .saves ≡ some s → SaveOf c s
+    go : (n : ℕ) → fieldError needs c ≡ n → effectOn n (fieldEffect (subjectOf (c .kind) (c .code)) loaded w c) w .saves ≡ some s → SaveOf needs c s
     go zero p q =
         let f = field-saves (subjectOf (c .kind) (c .code)) loaded w c s q in
         record { no-error = p; about = f .0; function = f .1 }
@@ -121,4 +121,4 @@ saved-function f loaded w s x e = rw e
 
 pub saves-then : SavesThen
 unfolding effectOf
-saves-then loaded w c s h = rw (h .no-error, h .about) (saved-function (c .function) loaded w s (valueFor s c) (h .function))
+saves-then needs loaded w c s h = rw (h .no-error, h .about) (saved-function (c .function) loaded w s (valueFor s c) (h .function))

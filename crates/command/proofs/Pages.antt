@@ -1,34 +1,36 @@
 -- What handling does to a sound page, and the reply in a room of 166 bytes.
-use Prim.Native.Nat.{ℕ, zero, suc, _+_, _%_, _≤_}
+use Prim.Native.Nat.{ℕ, zero, suc, _+_, _%_, _≤_, _<_}
 use native.Mathlib.Omega.{arith}
-use mathlib.Core.Path.{_≡_, refl, sym, _∙_, ap}
-use mathlib.Core.Bool.{Bool, true, false, _&&_, _||_}
+use mathlib.Core.Path.{_≡_, refl, _∙_, ap}
+use mathlib.Core.Bool.{Bool, true, false, _||_, not, cond}
 use mathlib.Core.List.{List, [], _∷_, _++_}
 use mathlib.Core.Option.{Option, none, some}
-use lib.Dec.{ltb}
-use lib.ListN.{length, getD, drop, length-drop, length-append, List·getD-append}
+use lib.Dec.{eqb, ltb}
+use lib.ListN.{length, getD, drop, length-drop, List·getD-append}
 use lib.Seq.{drop-append-le, take-append-le}
-use borrow.Author.Tests.{le-ltb, eq-eqb}
+use borrow.Author.Tests.{le-ltb, lt-ltb, eq-eqb}
 use Rattle.page.specs.declared.setting.Setting.{Setting}
 use Rattle.page.specs.declared.setting.Setting.the-variants.{Baud, Accelerometer, Gyroscope}
 use Rattle.page.specs.declared.setting.Values.{Values}
-use Rattle.page.specs.Settings.{allowed, valueBytes, factoryValue}
-use Rattle.page.specs.Page.{storedIn, storedAllowed, allAllowed, withValue, writing, pageSize}
+use Rattle.page.specs.Settings.{allowed, valueBytes, factoryValue, valueOf, lastNumber}
+use Rattle.page.specs.Page.{storedIn, allAllowed, withKey, writing, pageSize}
 use Rattle.page.specs.Lookup.{valuesIn}
-use Rattle.page.specs.Sound.{sound, pageWriting, savedPage}
+use Rattle.page.specs.Sound.{sound, pageWriting, putPage}
 use Rattle.page.specs.Theorems.{valueOr}
-use Rattle.page.proofs.Pages.{writing-size, value-back, sound-is-writing, save-keeps, loads-stored}
+use Rattle.page.proofs.Pages.{writing-size, in-use-kept, value-back, sound-is-writing, put-allowed, put-keeps, loads-stored}
 use Rattle.message.specs.Message.{typeOf, lengthOf, payloadOf}
 use Rattle.message.specs.Fields.{fieldsOf}
 use Rattle.command.specs.declared.settings.Settings.{Settings}
 use Rattle.command.specs.declared.command.Command.{Command}
 use Rattle.command.specs.Command.{commandsOf}
-use Rattle.command.specs.Errors.{messageError}
+use Rattle.command.specs.Errors.{commandError}
+use Rattle.command.specs.Numbers.{numberedKind, numberOf, innerKind, innerPayload, numberError}
 use Rattle.command.specs.Effects.{workingValue, Effect, effectOf, settingsAllowed}
-use Rattle.command.specs.Outcome.{State, Outcome, Received, receivedOf, replyRow, isSave, fieldsIn, thenOutcome, pageAfter, fieldOutcome, fieldsOutcome, messageOn, messageOutcome}
-use Rattle.command.specs.Answer.{bodyValue, loadedFrom, savedOn, pageAccess, replyRoom, Answering, answerWith, answerOn, answering}
-use Rattle.command.specs.Theorems.{LoadsStored, SaveOf, PageChanges, FieldKeeps, Saved, savesOn, ReplyWhole, SavedIn, KeptBy, AnswerKeeps, OwnBytes}
-use Rattle.stream.proofs.Bools.{differ, and-both}
+use Rattle.command.specs.Outcome.{State, Outcome, Received, receivedOf, replyRow, isSave, thenOutcome, pageAfter, needsNumber, fieldOutcome, fieldsOutcome}
+use Rattle.command.specs.Handle.{fieldsIn, refusedOutcome, commandOn, commandOutcome, spent, numberedOn, numberedOutcome, messageOutcome}
+use Rattle.command.specs.Answer.{bodyValue, loadedFrom, putOn, savedOn, numberOn, pageAccess, replyRoom, Answering, answerWith, answerOn, answering}
+use Rattle.command.specs.Theorems.{LoadsStored, SaveOf, PageKept, PageChanges, FieldKeeps, ReplyWhole, AnswerKeeps, OwnBytes}
+use Rattle.command.specs.Puts.{Put, putsOn, isEmpty, savePuts, fieldPuts, fieldsPuts, commandPutsOn, commandPuts, numberedPutsOn, numberedPuts, messagePuts}
 use Rattle.command.proofs.Keeps.{value-allowed, keeps-allowed, saves-only, saves-then}
 
 -- ---- loading
@@ -46,35 +48,28 @@ loaded-stored page s h =
     let e : bodyValue s (valueBytes s x) ≡ x = body-back s x (l .value-allowed) in
     record { value = rw (l .body) e; value-allowed = rw (l .body, e) (l .value-allowed) }
 
--- ---- saving
-
-pub put-allowed : (v : Values) (s : Setting) (x : ℕ) → allAllowed v ≡ true → allowed s x ≡ true → allAllowed (withValue v s x) ≡ true
-unfolding allAllowed
-put-allowed v s x e h = go s h
-  where
-    p : (storedAllowed Baud (v .baud) && storedAllowed Accelerometer (v .accelerometer) ≡ true) × (storedAllowed Gyroscope (v .gyroscope) ≡ true)
-    p = and-both (storedAllowed Baud (v .baud) && storedAllowed Accelerometer (v .accelerometer)) (storedAllowed Gyroscope (v .gyroscope)) e
-
-    q : (storedAllowed Baud (v .baud) ≡ true) × (storedAllowed Accelerometer (v .accelerometer) ≡ true)
-    q = and-both (storedAllowed Baud (v .baud)) (storedAllowed Accelerometer (v .accelerometer)) (p .0)
-
-    go : (s : Setting) → allowed s x ≡ true → allAllowed (withValue v s x) ≡ true
-    go Baud h = rw (h, q .1, p .1)
-    go Accelerometer h = rw (q .0, h, p .1)
-    go Gyroscope h = rw (q .0, q .1, h)
+-- ---- values put in
 
 page-written : (v : Values) (page : List ℕ) → length page ≡ pageSize → allAllowed v ≡ true → pageWriting v page .page ≡ writing v
 unfolding pageWriting
 page-written v page l a = rw (eq-eqb (length page) pageSize l, a)
 
 pub page-changes : PageChanges
-unfolding savedPage
-page-changes page s x h ok =
+unfolding putPage
+page-changes page k x h ok =
     let i = sound-is-writing page h in
     let l : length page ≡ pageSize = ap length (i .written) ∙ writing-size (valuesIn page) in
-    let v : allAllowed (withValue (valuesIn page) s x) ≡ true = put-allowed (valuesIn page) s x (i .allowed-values) ok in
-    let e : savedOn page s x ≡ savedPage page s x = page-written (withValue (valuesIn page) s x) page l v in
-    record { saved-page = e; sound-page = rw e (save-keeps page s x h ok .sound-page) }
+    let v : allAllowed (withKey (valuesIn page) k x) ≡ true = put-allowed (valuesIn page) k x (i .allowed-values) ok in
+    let e : putOn page k x ≡ putPage page k x = page-written (withKey (valuesIn page) k x) page l v in
+    record { put-page = e; sound-page = rw e (put-keeps page k x h ok .sound-page) }
+
+-- A save of a value that can be in use.
+pub save-changes : (page : List ℕ) (s : Setting) (x : ℕ) → sound page ≡ true → allowed s x ≡ true → PageKept page (valueOf s) x
+save-changes page s x h ok = page-changes page (valueOf s) x h (in-use-kept s x ok)
+
+-- A number is four bytes.
+pub number-small : (payload : List ℕ) → numberOf payload < 4294967296
+number-small payload = omega arith
 
 -- ---- a field, and a message
 
@@ -83,118 +78,170 @@ pub record Sound (x : State (List ℕ)) : Type 0 where
   pub settings : settingsAllowed (x .settings) ≡ true
   pub page : sound (x .page) ≡ true
 
-pub record Goes (page : List ℕ) (o : Outcome (List ℕ)) : Type 0 where
+-- What an outcome leaves: the page with exactly these values put in, and the mark where there is one.
+pub record Goes (page : List ℕ) (puts : List Put) (o : Outcome (List ℕ)) : Type 0 where
   pub stays : Sound (o .next)
-  pub saved : SavedIn (o .saved) page (o .next .page)
+  pub written : o .next .page ≡ putsOn page puts
+  pub mark : o .saved ≡ not (isEmpty puts)
 
-saved-as : (saves : Option Setting) (w : Settings) (page : List ℕ) → sound page ≡ true → settingsAllowed w ≡ true
-    → (sound (pageAfter savedOn saves w page) ≡ true) × SavedIn (isSave saves) page (pageAfter savedOn saves w page)
-saved-as none w page h a = (h, record { saves = []; written = refl; at-least-one = λ e. differ (sym e); no-save = λ e. refl })
+record SavedAs (saves : Option Setting) (w : Settings) (page : List ℕ) : Type 0 where
+  stays : sound (pageAfter savedOn saves w page) ≡ true
+  written : pageAfter savedOn saves w page ≡ putsOn page (savePuts saves w)
+  mark : isSave saves ≡ not (isEmpty (savePuts saves w))
+
+saved-as : (saves : Option Setting) (w : Settings) (page : List ℕ) → sound page ≡ true → settingsAllowed w ≡ true → SavedAs saves w page
+saved-as none w page h a = record { stays = h; written = refl; mark = refl }
 saved-as (some s) w page h a =
-    let k = page-changes page s (workingValue w s) h (value-allowed w s a) in (
-      k .sound-page,
-      record {
-        saves = record { setting = s; value = workingValue w s } ∷ [];
-        written = k .saved-page;
-        at-least-one = λ e. omega arith;
-        no-save = λ e. differ e;
-      },
-    )
+    let k = save-changes page s (workingValue w s) h (value-allowed w s a) in
+    record { stays = k .sound-page; written = k .put-page; mark = refl }
 
-pub field-goes : (port : ℕ) (x : State (List ℕ)) (c : Command) → Sound x → Goes (x .page) (fieldOutcome (pageAccess port) x c)
+pub field-goes : (guarded : Bool) (x : State (List ℕ)) (c : Command) → Sound x
+    → Goes (x .page) (fieldPuts guarded x c) (fieldOutcome pageAccess guarded x c)
 unfolding fieldOutcome effectOf
-field-goes port x c k =
-    let e = effectOf (loadedFrom (x .page)) (x .settings) c in
+field-goes guarded x c k =
+    let needs = needsNumber pageAccess guarded (x .page) in
+    let e = effectOf needs (loadedFrom (x .page)) (x .settings) c in
     let s = saved-as (e .saves) (x .settings) (x .page) (k .page) (k .settings) in
+    let l : (s : Setting) → allowed s (loadedFrom (x .page) s) ≡ true = λ s. loaded-stored (x .page) s (k .page) .value-allowed in
     record {
-      stays = record { settings = keeps-allowed (loadedFrom (x .page)) (x .settings) c (λ s. loaded-stored (x .page) s (k .page) .value-allowed) (k .settings); page = s .0 };
-      saved = s .1;
+      stays = record { settings = keeps-allowed needs (loadedFrom (x .page)) (x .settings) c l (k .settings); page = s .stays };
+      written = s .written;
+      mark = s .mark;
     }
 
 pub field-keeps : FieldKeeps
 unfolding fieldOutcome effectOf
-field-keeps port x c h a =
+field-keeps guarded x c h a =
     record {
       saved = λ s so.
-          (let e : effect .saves ≡ some s = saves-then (loadedFrom (x .page)) (x .settings) c s so in
-          (rw e, rw e (page-changes (x .page) s (workingValue (x .settings) s) h (value-allowed (x .settings) s a) .saved-page)));
+          (let e : effect .saves ≡ some s = saves-then needs (loadedFrom (x .page)) (x .settings) c s so in
+          (rw e, rw e (save-changes (x .page) s (workingValue (x .settings) s) h (value-allowed (x .settings) s a) .put-page)));
       unsaved = λ n. go n (effect .saves) refl;
     }
   where
-    effect : Effect
-    effect = effectOf (loadedFrom (x .page)) (x .settings) c
+    needs : Bool
+    needs = needsNumber pageAccess guarded (x .page)
 
-    go : ((s : Setting) → SaveOf c s → ⊥) → (saves : Option Setting) → effect .saves ≡ saves
+    effect : Effect
+    effect = effectOf needs (loadedFrom (x .page)) (x .settings) c
+
+    go : ((s : Setting) → SaveOf needs c s → ⊥) → (saves : Option Setting) → effect .saves ≡ saves
         → (isSave (effect .saves) ≡ false) × (pageAfter savedOn (effect .saves) (x .settings) (x .page) ≡ x .page)
     go n none e = (rw e, rw e)
-    go n (some s) e = absurd (n s (saves-only (loadedFrom (x .page)) (x .settings) c s e))
+    go n (some s) e = absurd (n s (saves-only needs (loadedFrom (x .page)) (x .settings) c s e))
 
-idle-goes : (x : State (List ℕ)) → Sound x → (rows : List ℕ) → Goes (x .page) (record { rows = rows; saved = false; next = x })
-idle-goes x k rows = record { stays = k; saved = record { saves = []; written = refl; at-least-one = λ e. differ (sym e); no-save = λ e. refl } }
+idle-goes : (x : State (List ℕ)) → Sound x → (rows : List ℕ) → Goes (x .page) [] (record { rows = rows; saved = false; next = x })
+idle-goes x k rows = record { stays = k; written = refl; mark = refl }
 
-saves-then-on : (page : List ℕ) (a b : List Saved) → savesOn (savesOn page a) b ≡ savesOn page (a ++ b)
-saves-then-on page [] b = refl
-saves-then-on page (s ∷ a) b = saves-then-on (savedPage page (s .setting) (s .value)) a b
+puts-then : (page : List ℕ) (a b : List Put) → putsOn (putsOn page a) b ≡ putsOn page (a ++ b)
+puts-then page [] b = refl
+puts-then page (p ∷ a) b = puts-then (putPage page (p .key) (p .value)) a b
 
-then-goes : (page : List ℕ) (a b : Outcome (List ℕ)) → Goes page a → Goes (a .next .page) b → Goes page (thenOutcome a b)
-then-goes page a b g h =
+either-put : (a b : List Put) → not (isEmpty a) || not (isEmpty b) ≡ not (isEmpty (a ++ b))
+either-put [] b = refl
+either-put (p ∷ a) b = refl
+
+then-goes : (page : List ℕ) (ps qs : List Put) (a b : Outcome (List ℕ)) → Goes page ps a → Goes (a .next .page) qs b → Goes page (ps ++ qs) (thenOutcome a b)
+then-goes page ps qs a b g h =
     record {
       stays = h .stays;
-      saved = record {
-        saves = g .saved .saves ++ h .saved .saves;
-        written = h .saved .written ∙ ap (λ (l : List ℕ). savesOn l (h .saved .saves)) (g .saved .written) ∙ saves-then-on page (g .saved .saves) (h .saved .saves);
-        at-least-one = λ e. rw length-append (either (a .saved) (b .saved) (g .saved .at-least-one) (h .saved .at-least-one) e);
-        no-save = λ e. neither (a .saved) (b .saved) (g .saved .no-save) (h .saved .no-save) e;
-      };
+      written = h .written ∙ ap (λ (l : List ℕ). putsOn l qs) (g .written) ∙ puts-then page ps qs;
+      mark = rw (g .mark, h .mark) (either-put ps qs);
     }
+
+fields-go : (guarded : Bool) (x : State (List ℕ)) (cs : List Command) → Sound x
+    → Goes (x .page) (fieldsPuts guarded x cs) (fieldsOutcome pageAccess guarded x cs)
+unfolding fieldsOutcome fieldsPuts
+fields-go guarded x [] k = idle-goes x k []
+fields-go guarded x (c ∷ cs) k =
+    let o = fieldOutcome pageAccess guarded x c in
+    let g = field-goes guarded x c k in
+    then-goes (x .page) (fieldPuts guarded x c) (fieldsPuts guarded (o .next) cs) o (fieldsOutcome pageAccess guarded (o .next) cs)
+    g (fields-go guarded (o .next) cs (g .stays))
+
+pub command-goes : (guarded : Bool) (x : State (List ℕ)) (kind : ℕ) (payload : List ℕ) → Sound x
+    → Goes (x .page) (commandPuts guarded x kind payload) (commandOutcome pageAccess guarded x kind payload)
+unfolding commandOutcome commandPuts
+command-goes guarded x kind payload k = go (commandError kind payload)
   where
-    either : (p q : Bool) → (p ≡ true → 1 ≤ length (g .saved .saves)) → (q ≡ true → 1 ≤ length (h .saved .saves)) → p || q ≡ true
-        → 1 ≤ length (g .saved .saves) + length (h .saved .saves)
-    either true q f k e = omega (arith, f refl)
-    either false q f k e = omega (arith, k e)
+    go : (n : ℕ) → Goes (x .page) (commandPutsOn n guarded x kind payload) (commandOn pageAccess n guarded x kind payload)
+    go zero = fields-go guarded x (commandsOf kind (fieldsIn (fieldsOf payload))) k
+    go (suc n) = idle-goes x k (replyRow (getD payload 0 0) (suc n) [])
 
-    neither : (p q : Bool) → (p ≡ false → g .saved .saves ≡ []) → (q ≡ false → h .saved .saves ≡ []) → p || q ≡ false
-        → g .saved .saves ++ h .saved .saves ≡ []
-    neither true q f k e = differ e
-    neither false q f k e = rw (f refl, k e)
-
-fields-go : (port : ℕ) (x : State (List ℕ)) (cs : List Command) → Sound x → Goes (x .page) (fieldsOutcome (pageAccess port) x cs)
-unfolding fieldsOutcome
-fields-go port x [] k = idle-goes x k []
-fields-go port x (c ∷ cs) k =
-    let g = field-goes port x c k in
-    then-goes (x .page) (fieldOutcome (pageAccess port) x c) (fieldsOutcome (pageAccess port) (fieldOutcome (pageAccess port) x c .next) cs) g (fields-go port (fieldOutcome (pageAccess port) x c .next) cs (g .stays))
-
-pub message-goes : (port : ℕ) (x : State (List ℕ)) (m : Received) → Sound x → Goes (x .page) (messageOutcome (pageAccess port) x m)
-unfolding messageOutcome
-message-goes port x m k = go (messageError (m .good) (m .kind) (m .payload))
+-- A number is spent, then the command inside is handled.
+numbered-goes : (x : State (List ℕ)) (payload : List ℕ) → Sound x → Goes (x .page) (numberedPuts x payload) (numberedOutcome pageAccess x payload)
+unfolding numberedOutcome numberedPuts
+numbered-goes x payload k = go (numberError (numberOn (x .page)) payload)
   where
-    go : (n : ℕ) → Goes (x .page) (messageOn (pageAccess port) n x (m .kind) (m .payload))
-    go zero = fields-go port x (commandsOf (m .kind) (fieldsIn (fieldsOf (m .payload)))) k
-    go (suc n) = idle-goes x k (replyRow (getD (m .payload) 0 0) (suc n) [])
+    n : ℕ
+    n = numberOf payload
+
+    put : PageKept (x .page) lastNumber n
+    put = page-changes (x .page) lastNumber n (k .page) (lt-ltb n 4294967296 (number-small payload))
+
+    puts : List Put
+    puts = commandPuts false (spent pageAccess x n) (innerKind payload) (innerPayload payload)
+
+    inner : Goes (spent pageAccess x n .page) puts (commandOutcome pageAccess false (spent pageAccess x n) (innerKind payload) (innerPayload payload))
+    inner = command-goes false (spent pageAccess x n) (innerKind payload) (innerPayload payload) (record { settings = k .settings; page = put .sound-page })
+
+    go : (e : ℕ) → Goes (x .page) (numberedPutsOn e x payload) (numberedOn pageAccess e x payload)
+    go zero =
+        record {
+          stays = inner .stays;
+          written = inner .written ∙ ap (λ (l : List ℕ). putsOn l puts) (put .put-page);
+          mark = refl;
+        }
+    go (suc e) = idle-goes x k (replyRow (getD (innerPayload payload) 0 0) (suc e) [])
+
+pub message-goes : (port : ℕ) (x : State (List ℕ)) (m : Received) → Sound x → Goes (x .page) (messagePuts port x m) (messageOutcome pageAccess port x m)
+unfolding messageOutcome messagePuts
+message-goes port x m k = go (m .good) (eqb (m .kind) numberedKind)
+  where
+    go : (good numbered : Bool) → Goes (x .page)
+        (cond (not good) [] (cond numbered (numberedPuts x (m .payload)) (commandPuts (eqb port 0) x (m .kind) (m .payload))))
+        (cond (not good) (refusedOutcome (getD (m .payload) 0 0) 1 x)
+        (cond numbered (numberedOutcome pageAccess x (m .payload)) (commandOutcome pageAccess (eqb port 0) x (m .kind) (m .payload))))
+    go false numbered = idle-goes x k (replyRow (getD (m .payload) 0 0) 1 [])
+    go true true = numbered-goes x (m .payload) k
+    go true false = command-goes (eqb port 0) x (m .kind) (m .payload) k
 
 -- ---- an answer
 
 pub answer-large : (port : ℕ) (m : Received) (w : Settings) (room page : List ℕ) → replyRoom ≤ length room
-    → answering port m w room page ≡ answerWith (m .kind) (messageOutcome (pageAccess port) (record { settings = w; page = page }) m) room
+    → answering port m w room page ≡ answerWith (m .kind) (messageOutcome pageAccess port (record { settings = w; page = page }) m) room
 unfolding answering
 answer-large port m w room page h = rw (le-ltb (length room) replyRoom h)
 
 pub reply-whole : ReplyWhole
 reply-whole port m w room page h = ap (λ (a : Answering). a .room) (answer-large port m w room page h)
 
+answer-small : (port : ℕ) (m : Received) (w : Settings) (room page : List ℕ) → length room < replyRoom
+    → answering port m w room page ≡ record { answer = record { saved = false; settings = w }; room = room; page = page }
+unfolding answering
+answer-small port m w room page h = rw (lt-ltb (length room) replyRoom h)
+
 pub answer-keeps : AnswerKeeps
 unfolding answering
-answer-keeps port m w room page h a = go (ltb (length room) replyRoom)
+answer-keeps port m w room page h a =
+    record {
+      settings-allowed = go (ltb (length room) replyRoom) .0;
+      page-sound = go (ltb (length room) replyRoom) .1;
+      page-after = λ l. rw (answer-large port m w room page l) (g .written);
+      mark = λ l. rw (answer-large port m w room page l) (g .mark);
+      small-room = answer-small port m w room page;
+    }
   where
     x : State (List ℕ)
     x = record { settings = w; page = page }
 
-    go : (b : Bool) → KeptBy page (answerOn b (m .kind) (messageOutcome (pageAccess port) (record { settings = w; page = page }) m) w room page)
-    go true = record { settings-allowed = a; page-sound = h; saved = record { saves = []; written = refl; at-least-one = λ e. differ (sym e); no-save = λ e. refl } }
-    go false =
-        let g = message-goes port (record { settings = w; page = page }) m (record { settings = a; page = h }) in
-        record { settings-allowed = g .stays .settings; page-sound = g .stays .page; saved = g .saved }
+    g : Goes page (messagePuts port x m) (messageOutcome pageAccess port x m)
+    g = message-goes port x m (record { settings = a; page = h })
+
+    go : (b : Bool) → (settingsAllowed (answerOn b (m .kind) (messageOutcome pageAccess port x m) w room page .answer .settings) ≡ true)
+        × (sound (answerOn b (m .kind) (messageOutcome pageAccess port x m) w room page .page) ≡ true)
+    go true = (a, h)
+    go false = (g .stays .settings, g .stays .page)
 
 -- ---- a message's own bytes
 

@@ -1,5 +1,5 @@
--- The payload of the message at the front of held bytes and then a chunk, and the errors of the message as a whole.
-use Prim.Native.Nat.{ℕ, _+_, _-_, _≤_, _<_, min}
+-- The payload of the message at the front of held bytes and then a chunk, and the errors of a command as a whole.
+use Prim.Native.Nat.{ℕ, _+_, _-_, _≤_, _<_}
 use native.Mathlib.Omega.{arith}
 use mathlib.Core.Path.{_≡_, sym, ap, _∙_}
 use mathlib.Core.Bool.{Bool, true, false, not}
@@ -9,10 +9,10 @@ use borrow.Author.Tests.{eqb-false}
 use lib.Seq.{take-all, take-nil}
 use Rattle.message.specs.Fields.{fieldsOf}
 use Rattle.message.specs.Message.{lengthOf, payloadOf}
-use Rattle.command.specs.Errors.{fieldsRefused, isKind, messageError}
+use Rattle.command.specs.Errors.{fieldsRefused, isKind, commandError}
 use Rattle.command.proofs.Rests.{drop-take}
 use Rattle.command.proofs.Subjects.{data-there, data-none}
-use Rattle.command.proofs.Tests.{error-damaged, error-other, error-empty, error-fit, error-unfit, message-passed}
+use Rattle.command.proofs.Tests.{error-other, error-empty, error-fit, error-unfit, command-passed}
 
 module _ (held chunk : List ℕ) where
   all-long : length (held ++ chunk) ≡ length held + length chunk
@@ -41,52 +41,50 @@ module _ (held chunk : List ℕ) where
           ap (drop 4) (take-all (length held + length chunk) (held ++ chunk) (omega (arith, all-long)))
           ∙ sym (take-all (lengthOf (held ++ chunk)) (drop 4 (held ++ chunk)) (rw (told, length-drop) (omega (arith, all-long))))
 
-  -- ---- the echo
+  -- ---- the bytes from one place to another
 
-  pub echo-there : (to r : ℕ) → 4 < to → r ≡ getD (held ++ chunk) 4 0 → r ≡ getD (drop 4 (take to (held ++ chunk))) 0 0
-  echo-there to r h e = data-there (held ++ chunk) 4 (to - 4) 0 r (omega arith) e ∙ ap (λ (l : List ℕ). getD l 0 0) (sym (drop-take 4 to (held ++ chunk)))
+  module _ (from to : ℕ) where
+    pub echo-there : (r : ℕ) → from < to → r ≡ getD (held ++ chunk) from 0 → r ≡ getD (drop from (take to (held ++ chunk))) 0 0
+    echo-there r h e =
+        let z : from + 0 ≡ from = omega arith in
+        data-there (held ++ chunk) from (to - from) 0 r (omega arith) (rw z e) ∙ ap (λ (l : List ℕ). getD l 0 0) (sym (drop-take from to (held ++ chunk)))
 
-  pub echo-none : (to : ℕ) → to ≤ 4 → 0 ≡ getD (drop 4 (take to (held ++ chunk))) 0 0
-  echo-none to h = data-none (held ++ chunk) 4 (to - 4) 0 (omega arith) ∙ ap (λ (l : List ℕ). getD l 0 0) (sym (drop-take 4 to (held ++ chunk)))
+    pub echo-none : to ≤ from → 0 ≡ getD (drop from (take to (held ++ chunk))) 0 0
+    echo-none h = data-none (held ++ chunk) from (to - from) 0 (omega arith) ∙ ap (λ (l : List ℕ). getD l 0 0) (sym (drop-take from to (held ++ chunk)))
 
-  -- ---- the error of the message
+    -- ---- the error of a command as a whole
 
-  module _ (good : Bool) (kind to : ℕ) (low : 4 ≤ to) (high : to ≤ 4 + (length held + length chunk - 4)) where
-    abbrev payload : List ℕ
-    payload = drop 4 (take to (held ++ chunk))
+    module _ (kind : ℕ) (low : from ≤ to) (high : to ≤ from + (length held + length chunk - from)) where
+      abbrev part : List ℕ
+      part = drop from (take to (held ++ chunk))
 
-    size : length payload ≡ to - 4
-    size = rw (length-drop, length-take, all-long) (omega arith)
+      size : length part ≡ to - from
+      size = rw (length-drop, length-take, all-long) (omega arith)
 
-    pub whole-damaged : not good ≡ true → 1 ≡ messageError good kind payload
-    whole-damaged = error-damaged good kind payload
+      module _ (k : Bool) (ks : k ≡ isKind kind) where
+        pub whole-other : not k ≡ true → 2 ≡ commandError kind part
+        whole-other = error-other kind part k ks
 
-    module _ (right : not good ≡ false) (k : Bool) (ks : k ≡ isKind kind) where
-      pub whole-other : not k ≡ true → 2 ≡ messageError good kind payload
-      whole-other = error-other good kind payload right k ks
+        module _ (known : not k ≡ false) where
+          pub whole-empty : from ≡ to → 3 ≡ commandError kind part
+          whole-empty h = error-empty kind part k ks known (size ∙ omega arith)
 
-      module _ (known : not k ≡ false) where
-        pub whole-empty : to ≡ 4 → 3 ≡ messageError good kind payload
-        whole-empty h = error-empty good kind payload right k ks known (size ∙ omega arith)
+          module _ (some : from ≡ to → ⊥) (fit : Bool) (is : fit ≡ not (fieldsRefused (fieldsOf part))) where
+            pub whole-fit : fit ≡ true → 0 ≡ commandError kind part
+            whole-fit = error-fit kind part k ks known (λ e. some (omega (arith, size))) fit is
 
-        module _ (some : to ≡ 4 → ⊥) (fit : Bool) (is : fit ≡ not (fieldsRefused (fieldsOf payload))) where
-          pub whole-fit : fit ≡ true → 0 ≡ messageError good kind payload
-          whole-fit = error-fit good kind payload right k ks known (λ e. some (omega (arith, size))) fit is
+            pub whole-unfit : fit ≡ false → 4 ≡ commandError kind part
+            whole-unfit = error-unfit kind part k ks known (λ e. some (omega (arith, size))) fit is
 
-          pub whole-unfit : fit ≡ false → 4 ≡ messageError good kind payload
-          whole-unfit = error-unfit good kind payload right k ks known (λ e. some (omega (arith, size))) fit is
-
-  -- ---- fields that can be answered
-
-  pub fields-there : (good : Bool) (kind to error : ℕ) → 4 ≤ to → to < 260 → to ≤ 4 + (length held + length chunk - 4)
-      → error ≡ messageError good kind (drop 4 (take to (held ++ chunk))) → error ≡ 0
-      → ((4 ≤ to) × (to < 65536) × (to ≤ length held + length chunk)) × (fieldsRefused (fieldsOf (drop 4 (take to (held ++ chunk)))) ≡ false)
-  fields-there good kind to error low few high es z =
-      let p = message-passed good kind (drop 4 (take to (held ++ chunk))) (sym es ∙ z) in
-      let s : length (drop 4 (take to (held ++ chunk))) ≡ 0 → ⊥ = eqb-false (length (drop 4 (take to (held ++ chunk)))) 0 (p .some) in
-      let l : length (drop 4 (take to (held ++ chunk))) ≡ min to (length held + length chunk) - 4 = rw (length-drop, length-take, all-long) in
-      ((low, omega arith, inside l s), p .fit)
-    where
-      inside : length (drop 4 (take to (held ++ chunk))) ≡ min to (length held + length chunk) - 4 → (length (drop 4 (take to (held ++ chunk))) ≡ 0 → ⊥)
-          → to ≤ length held + length chunk
-      inside l s = omega arith
+      -- Fields that can be answered.
+      pub fields-there : (error : ℕ) → error ≡ commandError kind part → error ≡ 0
+          → (to ≤ length held + length chunk) × (fieldsRefused (fieldsOf part) ≡ false)
+      fields-there error es z =
+          let p = command-passed kind part (sym es ∙ z) in
+          let s : length part ≡ 0 → ⊥ = eqb-false (length part) 0 (p .some) in
+          (inside s, p .fit)
+        where
+          inside : (length part ≡ 0 → ⊥) → to ≤ length held + length chunk
+          inside s =
+              let some : to - from ≡ 0 → ⊥ = λ e. s (size ∙ e) in
+              omega arith

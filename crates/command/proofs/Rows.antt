@@ -1,19 +1,25 @@
--- The rows of a field are at least 4 bytes and at most 10.
+-- The rows of a field are at least 4 bytes and at most 10, those of a message at most 160.
 use Prim.Native.Nat.{ℕ, zero, suc, _*_, _≤_}
 use native.Mathlib.Omega.{arith}
+use mathlib.Core.Path.{_≡_, refl}
+use mathlib.Core.Bool.{Bool, true, false, not, cond}
 use mathlib.Core.List.{List, [], _∷_}
-use lib.ListN.{length, length-append}
+use lib.Dec.{eqb}
+use lib.ListN.{length, getD, length-append}
 use Rattle.page.specs.declared.setting.Setting.{Setting}
 use Rattle.page.specs.declared.setting.Setting.the-variants.{Baud, Accelerometer, Gyroscope}
-use Rattle.message.specs.Fields.{Field}
+use Rattle.message.specs.Fields.{Field, fieldsOf}
 use Rattle.command.specs.declared.settings.Settings.{Settings}
 use Rattle.command.specs.declared.command.Command.{Command}
 use Rattle.command.specs.declared.command.Subject.{Subject}
 use Rattle.command.specs.declared.command.Subject.the-variants.{Ping, Setting as About, Unknown}
 use Rattle.command.specs.Command.{commandOf, commandsOf, valueFor, subjectOf}
-use Rattle.command.specs.Errors.{fieldError}
+use Rattle.command.specs.Errors.{fieldError, commandError}
+use Rattle.command.specs.Numbers.{numberedKind, numberOf, innerKind, innerPayload, numberError}
 use Rattle.command.specs.Effects.{workingValue, valueField, functionEffect, fieldEffect, effectOn, effectOf}
-use Rattle.command.specs.Outcome.{Access, State, fieldOutcome, fieldsOutcome}
+use Rattle.command.specs.Outcome.{Access, State, Received, needsNumber, fieldOutcome, fieldsOutcome}
+use Rattle.command.specs.Handle.{fieldsIn, spent, refusedOutcome, commandOn, commandOutcome, numberedOn, numberedOutcome, messageOutcome}
+use Rattle.command.proofs.Tests.{fields-some}
 
 row-most : (s : Setting) (x : ℕ) → length (valueField s x) ≤ 6
 row-most Baud x = omega arith
@@ -33,35 +39,65 @@ field-row Ping loaded w c = omega arith
 field-row (About s) loaded w c = function-row (c .function) loaded w s (valueFor s c)
 field-row Unknown loaded w c = omega arith
 
-pub effect-row : (loaded : Setting → ℕ) (w : Settings) (c : Command) → length (effectOf loaded w c .report) ≤ 6
+pub effect-row : (needs : Bool) (loaded : Setting → ℕ) (w : Settings) (c : Command) → length (effectOf needs loaded w c .report) ≤ 6
 unfolding effectOf
-effect-row loaded w c = go (fieldError c)
+effect-row needs loaded w c = go (fieldError needs c)
   where
     go : (n : ℕ) → length (effectOn n (fieldEffect (subjectOf (c .kind) (c .code)) loaded w c) w .report) ≤ 6
     go zero = field-row (subjectOf (c .kind) (c .code)) loaded w c
     go (suc n) = omega arith
 
-module _ {P : Type 0} (access : Access P) where
-  pub outcome-most : (x : State P) (c : Command) → length (fieldOutcome access x c .rows) ≤ 10
+module _ {P : Type 0} (access : Access P) (guarded : Bool) where
+  pub outcome-most : (x : State P) (c : Command) → length (fieldOutcome access guarded x c .rows) ≤ 10
   unfolding fieldOutcome effectOf
-  outcome-most x c = omega (arith, effect-row (access .loaded (x .page)) (x .settings) c)
+  outcome-most x c = omega (arith, effect-row (needsNumber access guarded (x .page)) (access .loaded (x .page)) (x .settings) c)
 
-  pub outcome-least : (x : State P) (c : Command) → 4 ≤ length (fieldOutcome access x c .rows)
+  pub outcome-least : (x : State P) (c : Command) → 4 ≤ length (fieldOutcome access guarded x c .rows)
   unfolding fieldOutcome
   outcome-least x c = omega arith
 
-  pub outcomes-most : (x : State P) (kind : ℕ) (fs : List Field) → length (fieldsOutcome access x (commandsOf kind fs) .rows) ≤ 10 * length fs
+  pub outcomes-most : (x : State P) (kind : ℕ) (fs : List Field) → length (fieldsOutcome access guarded x (commandsOf kind fs) .rows) ≤ 10 * length fs
   unfolding fieldsOutcome
   outcomes-most x kind [] = omega arith
   outcomes-most x kind (f ∷ fs) =
-      let a = fieldOutcome access x (commandOf kind f) in
-      let b = fieldsOutcome access (a .next) (commandsOf kind fs) in
+      let a = fieldOutcome access guarded x (commandOf kind f) in
+      let b = fieldsOutcome access guarded (a .next) (commandsOf kind fs) in
       rw (length-append (a .rows) (b .rows)) (omega (arith, outcome-most x (commandOf kind f), outcomes-most (a .next) kind fs))
 
-  pub outcomes-least : (x : State P) (kind : ℕ) (fs : List Field) → 1 ≤ length fs → 4 ≤ length (fieldsOutcome access x (commandsOf kind fs) .rows)
+  pub outcomes-least : (x : State P) (kind : ℕ) (fs : List Field) → 1 ≤ length fs → 4 ≤ length (fieldsOutcome access guarded x (commandsOf kind fs) .rows)
   unfolding fieldsOutcome
   outcomes-least x kind [] h = absurd (omega arith)
   outcomes-least x kind (f ∷ fs) h =
-      let a = fieldOutcome access x (commandOf kind f) in
-      let b = fieldsOutcome access (a .next) (commandsOf kind fs) in
+      let a = fieldOutcome access guarded x (commandOf kind f) in
+      let b = fieldsOutcome access guarded (a .next) (commandsOf kind fs) in
       rw (length-append (a .rows) (b .rows)) (omega (arith, outcome-least x (commandOf kind f)))
+
+-- ---- a message
+
+module _ {P : Type 0} (access : Access P) where
+  pub command-most : (guarded : Bool) (x : State P) (kind : ℕ) (payload : List ℕ) → length (commandOutcome access guarded x kind payload .rows) ≤ 160
+  unfolding commandOutcome
+  command-most guarded x kind payload = go (commandError kind payload) refl
+    where
+      go : (n : ℕ) → commandError kind payload ≡ n → length (commandOn access n guarded x kind payload .rows) ≤ 160
+      go zero e = omega (arith, outcomes-most access guarded x kind (fieldsIn (fieldsOf payload)), fields-some kind payload e .1)
+      go (suc n) e = omega arith
+
+  numbered-most : (x : State P) (payload : List ℕ) → length (numberedOutcome access x payload .rows) ≤ 160
+  unfolding numberedOutcome
+  numbered-most x payload = go (numberError (access .lastNumber (x .page)) payload)
+    where
+      go : (n : ℕ) → length (numberedOn access n x payload .rows) ≤ 160
+      go zero = command-most false (spent access x (numberOf payload)) (innerKind payload) (innerPayload payload)
+      go (suc n) = omega arith
+
+  pub message-most : (port : ℕ) (x : State P) (m : Received) → length (messageOutcome access port x m .rows) ≤ 160
+  unfolding messageOutcome
+  message-most port x m = go (not (m .good)) (eqb (m .kind) numberedKind)
+    where
+      go : (a b : Bool)
+          → length (cond a (refusedOutcome (getD (m .payload) 0 0) 1 x)
+          (cond b (numberedOutcome access x (m .payload)) (commandOutcome access (eqb port 0) x (m .kind) (m .payload))) .rows) ≤ 160
+      go true b = omega arith
+      go false true = numbered-most x (m .payload)
+      go false false = command-most (eqb port 0) x (m .kind) (m .payload)

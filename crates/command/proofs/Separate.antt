@@ -3,12 +3,12 @@
 use Prim.Native.Nat.{ℕ, zero, suc, _+_, _*_, _≤_}
 use native.Mathlib.Omega.{arith}
 use mathlib.Core.Path.{_≡_, refl, sym, ap, _∙_}
-use mathlib.Core.Bool.{true, _||_, or-false}
+use mathlib.Core.Bool.{Bool, true, false, not, cond, or-false, and-false}
 use mathlib.Core.List.{List, [], _∷_, append-nil}
 use mathlib.Core.Option.{some}
 use lib.Dec.{eqb}
 use borrow.Author.Tests.{ne-eqb}
-use lib.ListN.{length, length-append, length-take}
+use lib.ListN.{length, getD, length-append, length-take}
 use Rattle.page.specs.Settings.{settingOf}
 use Rattle.message.specs.Fields.{Field, fieldBytes, rowBytes, SizesRight, fieldsOf}
 use Rattle.message.specs.Message.{messageOf, typeOf, payloadOf}
@@ -16,20 +16,26 @@ use Rattle.message.specs.Theorems.{RoundTrip}
 use Rattle.message.proofs.FieldRows.{fields-fill, fields-back}
 use Rattle.message.proofs.RoundTrips.{written-is-read}
 use Rattle.message.proofs.Writes.{message-length}
+use Rattle.stream.proofs.Bools.{differ}
 use Rattle.command.specs.declared.command.Command.{Command}
 use Rattle.command.specs.Command.{commandOf, commandsOf, subjectOf}
-use Rattle.command.specs.Errors.{fieldWrong, fieldError, messageError}
-use Rattle.command.specs.Effects.{effectOf}
-use Rattle.command.specs.Outcome.{Access, State, Outcome, Received, receivedOf, replyOf, fieldsIn, idle, thenOutcome, fieldOutcome, fieldsOutcome, messageOn, messageOutcome}
-use Rattle.command.specs.Several.{inTurn, separate, AsSeparate, sixteenReports, LongestReply, Alike, FieldsAlike}
-use Rattle.command.proofs.Rows.{outcomes-most}
-use Rattle.command.proofs.Tests.{message-passed, fields-some}
+use Rattle.command.specs.Errors.{fieldWrong, fieldError, isKind, commandError}
+use Rattle.command.specs.Numbers.{numberedKind, numberOf, innerKind, innerPayload, numberError}
+use Rattle.command.specs.Outcome.{Access, State, Outcome, Received, receivedOf, replyOf, replyRow, idle, thenOutcome, needsNumber, fieldOutcome, fieldsOutcome}
+use Rattle.command.specs.Handle.{fieldsIn, refusedOutcome, commandOn, commandOutcome, spent, numberedOn, numberedOutcome, messageOutcome}
+use Rattle.command.specs.Several.{inTurn, separate, AsSeparate, sixteenReports, LongestReply, Alike, KeepAlike, MessagesAlike}
+use Rattle.command.proofs.Rows.{message-most}
+use Rattle.command.proofs.Tests.{command-passed}
 
 -- ---- separate messages
 
--- A field on its own is a message that is not refused as a whole.
-alone-passes : (kind : ℕ) (f : Field) → eqb kind 0x01 || eqb kind 0x02 ≡ true → fieldsOf (fieldBytes f) ≡ some (f ∷ []) → messageError true kind (fieldBytes f) ≡ 0
-unfolding messageError
+-- A type that is known is not 7C.
+pub known-kind : (kind : ℕ) → isKind kind ≡ true → eqb kind numberedKind ≡ false
+known-kind kind k = ne-eqb kind numberedKind (λ e. let z : false ≡ true = rw e at k in differ (sym z))
+
+-- A field on its own is a command that is not refused as a whole.
+alone-passes : (kind : ℕ) (f : Field) → isKind kind ≡ true → fieldsOf (fieldBytes f) ≡ some (f ∷ []) → commandError kind (fieldBytes f) ≡ 0
+unfolding commandError
 alone-passes kind f k e = rw (k, e, ne-eqb (length (fieldBytes f)) 0 (λ z. omega arith))
 
 alone-field : (f : Field) → f .size ≡ length (f .content) → fieldsOf (fieldBytes f) ≡ some (f ∷ [])
@@ -39,65 +45,99 @@ module _ {P : Type 0} (access : Access P) where
   pub then-idle : (o : Outcome P) → thenOutcome o (idle (o .next)) ≡ o
   then-idle o = rw (append-nil (o .rows), or-false (o .saved))
 
-  alone : (x : State P) (kind : ℕ) (f : Field) → eqb kind 0x01 || eqb kind 0x02 ≡ true → f .size ≡ length (f .content) → length (fieldBytes f) ≤ 255
-      → messageOutcome access x (receivedOf true (messageOf kind (fieldBytes f))) ≡ fieldOutcome access x (commandOf kind f)
-  unfolding messageOutcome fieldsOutcome receivedOf
-  alone x kind f k s l =
-      let e : fieldsOf (fieldBytes f) ≡ some (f ∷ []) = alone-field f s in
-      let r : RoundTrip kind (fieldBytes f) = written-is-read kind (fieldBytes f) l in
-      let m : receivedOf true (messageOf kind (fieldBytes f)) ≡ record { good = true; kind = kind; payload = fieldBytes f } = rw (r .kind-back, r .payload-back) in
-      ap (messageOutcome access x) m ∙ rw (alone-passes kind f k e, e) (then-idle (fieldOutcome access x (commandOf kind f)))
+  module _ (port : ℕ) where
+    -- A good message of another type than 7C is a command.
+    pub is-command : (x : State P) (kind : ℕ) (payload : List ℕ) → eqb kind numberedKind ≡ false
+        → messageOutcome access port x (record { good = true; kind = kind; payload = payload }) ≡ commandOutcome access (eqb port 0) x kind payload
+    unfolding messageOutcome
+    is-command x kind payload k = rw k
 
-  each-alone : (x : State P) (kind : ℕ) (fs : List Field) → eqb kind 0x01 || eqb kind 0x02 ≡ true → SizesRight fs → length (rowBytes fs) ≤ 255
-      → fieldsOutcome access x (commandsOf kind fs) ≡ inTurn access x (separate kind fs)
-  unfolding fieldsOutcome
-  each-alone x kind [] k s l = refl
-  each-alone x kind (f ∷ fs) k s l =
-      let n : length (rowBytes (f ∷ fs)) ≡ length (fieldBytes f) + length (rowBytes fs) = length-append (fieldBytes f) (rowBytes fs) in
-      let a = alone x kind f k (s .0) (omega arith) in
-      rw a (ap (thenOutcome (fieldOutcome access x (commandOf kind f))) (each-alone (fieldOutcome access x (commandOf kind f) .next) kind fs k (s .1) (omega arith)))
+    alone : (x : State P) (kind : ℕ) (f : Field) → isKind kind ≡ true → f .size ≡ length (f .content) → length (fieldBytes f) ≤ 255
+        → messageOutcome access port x (receivedOf true (messageOf kind (fieldBytes f))) ≡ fieldOutcome access (eqb port 0) x (commandOf kind f)
+    unfolding commandOutcome fieldsOutcome receivedOf
+    alone x kind f k s l =
+        let e : fieldsOf (fieldBytes f) ≡ some (f ∷ []) = alone-field f s in
+        let r : RoundTrip kind (fieldBytes f) = written-is-read kind (fieldBytes f) l in
+        let m : receivedOf true (messageOf kind (fieldBytes f)) ≡ record { good = true; kind = kind; payload = fieldBytes f } = rw (r .kind-back, r .payload-back) in
+        ap (messageOutcome access port x) m
+        ∙ is-command x kind (fieldBytes f) (known-kind kind k)
+        ∙ rw (alone-passes kind f k e, e) (then-idle (fieldOutcome access (eqb port 0) x (commandOf kind f)))
+
+    each-alone : (x : State P) (kind : ℕ) (fs : List Field) → isKind kind ≡ true → SizesRight fs → length (rowBytes fs) ≤ 255
+        → fieldsOutcome access (eqb port 0) x (commandsOf kind fs) ≡ inTurn access port x (separate kind fs)
+    unfolding fieldsOutcome
+    each-alone x kind [] k s l = refl
+    each-alone x kind (f ∷ fs) k s l =
+        let n : length (rowBytes (f ∷ fs)) ≡ length (fieldBytes f) + length (rowBytes fs) = length-append (fieldBytes f) (rowBytes fs) in
+        let a = alone x kind f k (s .0) (omega arith) in
+        let o = fieldOutcome access (eqb port 0) x (commandOf kind f) in
+        rw a (ap (thenOutcome o) (each-alone (o .next) kind fs k (s .1) (omega arith)))
 
 pub as-separate : AsSeparate
-unfolding messageOutcome receivedOf
-as-separate P access x m fs e h =
-    let p = message-passed true (typeOf m) (payloadOf m) e in
+unfolding commandOutcome receivedOf
+as-separate P access port x m fs e h =
+    let p = command-passed (typeOf m) (payloadOf m) e in
     let f = fields-fill (payloadOf m) fs h in
     let l : length (rowBytes fs) ≤ 255 = rw (f .0, length-take) (omega arith) in
-    rw (e, h) (each-alone access x (typeOf m) fs (p .kind-known) (f .1) l)
+    is-command access port x (typeOf m) (payloadOf m) (known-kind (typeOf m) (p .kind-known))
+    ∙ rw (e, h) (each-alone access port x (typeOf m) fs (p .kind-known) (f .1) l)
 
 -- ---- two keepings of the page
 
-module _ {P Q : Type 0} (s : Access P) (t : Access Q) (R : State P → State Q → Type 0)
-    (field : (x : State P) (y : State Q) (c : Command) → R x y → Alike R (fieldOutcome s x c) (fieldOutcome t y c)) where
-  each-alike : (x : State P) (y : State Q) (cs : List Command) → R x y → Alike R (fieldsOutcome s x cs) (fieldsOutcome t y cs)
+module _ {P Q : Type 0} (s : Access P) (t : Access Q) (R : State P → State Q → Type 0) (keep : KeepAlike s t R) where
+  idle-alike : (x : State P) (y : State Q) (rows : List ℕ) → R x y
+      → Alike R (record { rows = rows; saved = false; next = x }) (record { rows = rows; saved = false; next = y })
+  idle-alike x y rows r = record { rows = refl; saved = refl; next = r }
+
+  each-alike : (guarded : Bool) (x : State P) (y : State Q) (cs : List Command) → R x y
+      → Alike R (fieldsOutcome s guarded x cs) (fieldsOutcome t guarded y cs)
   unfolding fieldsOutcome
-  each-alike x y [] r = record { rows = refl; saved = refl; next = r }
-  each-alike x y (c ∷ cs) r =
-      let a = field x y c r in
-      let b = each-alike (fieldOutcome s x c .next) (fieldOutcome t y c .next) cs (a .next) in
+  each-alike guarded x y [] r = idle-alike x y [] r
+  each-alike guarded x y (c ∷ cs) r =
+      let a = keep .fields guarded x y c r in
+      let b = each-alike guarded (fieldOutcome s guarded x c .next) (fieldOutcome t guarded y c .next) cs (a .next) in
       record { rows = rw (a .rows, b .rows); saved = rw (a .saved, b .saved); next = b .next }
 
-pub fields-alike : FieldsAlike
+  command-alike : (guarded : Bool) (x : State P) (y : State Q) (kind : ℕ) (payload : List ℕ) → R x y
+      → Alike R (commandOutcome s guarded x kind payload) (commandOutcome t guarded y kind payload)
+  unfolding commandOutcome
+  command-alike guarded x y kind payload r = go (commandError kind payload)
+    where
+      go : (n : ℕ) → Alike R (commandOn s n guarded x kind payload) (commandOn t n guarded y kind payload)
+      go zero = each-alike guarded x y (commandsOf kind (fieldsIn (fieldsOf payload))) r
+      go (suc n) = idle-alike x y (replyRow (getD payload 0 0) (suc n) []) r
+
+  numbered-alike : (x : State P) (y : State Q) (payload : List ℕ) → R x y → Alike R (numberedOutcome s x payload) (numberedOutcome t y payload)
+  unfolding numberedOutcome
+  numbered-alike x y payload r = rw (keep .numbers x y r) (go (numberError (t .lastNumber (y .page)) payload))
+    where
+      n : ℕ
+      n = numberOf payload
+
+      go : (e : ℕ) → Alike R (numberedOn s e x payload) (numberedOn t e y payload)
+      go zero =
+          let put = keep .puts n x y (omega arith) r in
+          let a = command-alike false (spent s x n) (spent t y n) (innerKind payload) (innerPayload payload) put in
+          record { rows = a .rows; saved = refl; next = a .next }
+      go (suc e) = idle-alike x y (replyRow (getD (innerPayload payload) 0 0) (suc e) []) r
+
+pub messages-alike : MessagesAlike
 unfolding messageOutcome
-fields-alike P Q s t R field x y m r = go (messageError (m .good) (m .kind) (m .payload))
+messages-alike P Q s t R keep port x y m r = go (m .good) (eqb (m .kind) numberedKind)
   where
-    go : (n : ℕ) → Alike R (messageOn s n x (m .kind) (m .payload)) (messageOn t n y (m .kind) (m .payload))
-    go zero = each-alike s t R field x y (commandsOf (m .kind) (fieldsIn (fieldsOf (m .payload)))) r
-    go (suc n) = record { rows = refl; saved = refl; next = r }
+    go : (good numbered : Bool) → Alike R
+        (cond (not good) (refusedOutcome (getD (m .payload) 0 0) 1 x)
+        (cond numbered (numberedOutcome s x (m .payload)) (commandOutcome s (eqb port 0) x (m .kind) (m .payload))))
+        (cond (not good) (refusedOutcome (getD (m .payload) 0 0) 1 y)
+        (cond numbered (numberedOutcome t y (m .payload)) (commandOutcome t (eqb port 0) y (m .kind) (m .payload))))
+    go false numbered = idle-alike s t R keep x y (replyRow (getD (m .payload) 0 0) 1 []) r
+    go true true = numbered-alike s t R keep x y (m .payload) r
+    go true false = command-alike s t R keep (eqb port 0) x y (m .kind) (m .payload) r
 
 -- ---- the longest reply
 
-module _ {P : Type 0} (access : Access P) (x : State P) where
-  reply-most : (m : Received) → length (replyOf (m .kind) (messageOutcome access x m)) ≤ 166
-  unfolding messageOutcome
-  reply-most m = go (messageError (m .good) (m .kind) (m .payload)) refl
-    where
-      go : (n : ℕ) → messageError (m .good) (m .kind) (m .payload) ≡ n → length (replyOf (m .kind) (messageOn access n x (m .kind) (m .payload))) ≤ 166
-      go zero e =
-          let fs : List Field = fieldsIn (fieldsOf (m .payload)) in
-          let o : Outcome P = fieldsOutcome access x (commandsOf (m .kind) fs) in
-          omega (arith, message-length (m .kind) (o .rows), outcomes-most access x (m .kind) fs, fields-some (m .good) (m .kind) (m .payload) e .1)
-      go (suc n) e = rw message-length (omega arith)
+reply-most : {P : Type 0} (access : Access P) (port : ℕ) (x : State P) (m : Received) → length (replyOf (m .kind) (messageOutcome access port x m)) ≤ 166
+reply-most access port x m = rw message-length (omega (arith, message-most access port x m))
 
 -- A report of the baud rate, some times.
 abbrev report : Command
@@ -107,29 +147,34 @@ abbrev reports : ℕ → List Command
 reports zero = []
 reports (suc n) = report ∷ reports n
 
-sixteen-pass : messageError true 0x02 (sixteenReports .payload) ≡ 0
-unfolding messageError fieldsOf
+sixteen-pass : commandError 0x02 (sixteenReports .payload) ≡ 0
+unfolding commandError fieldsOf
 sixteen-pass = refl
 
 sixteen-are : commandsOf 0x02 (fieldsIn (fieldsOf (sixteenReports .payload))) ≡ reports 16
 unfolding commandOf fieldsOf
 sixteen-are = refl
 
-report-rows : {P : Type 0} (access : Access P) (x : State P) → length (fieldOutcome access x report .rows) ≡ 10
-unfolding fieldOutcome fieldError fieldWrong subjectOf settingOf effectOf
-report-rows access x = refl
+-- A report needs no number.
+report-right : (needs : Bool) → fieldError needs report ≡ 0
+unfolding fieldError fieldWrong subjectOf settingOf
+report-right needs = rw (and-false needs)
 
-reports-rows : {P : Type 0} (access : Access P) (x : State P) (n : ℕ) → length (fieldsOutcome access x (reports n) .rows) ≡ 10 * n
-unfolding fieldsOutcome
-reports-rows access x zero = refl
-reports-rows access x (suc n) =
-    let a = fieldOutcome access x report in
-    rw (length-append (a .rows)) (omega (arith, report-rows access x, reports-rows access (a .next) n))
+module _ {P : Type 0} (access : Access P) (guarded : Bool) where
+  report-rows : (x : State P) → length (fieldOutcome access guarded x report .rows) ≡ 10
+  unfolding fieldOutcome subjectOf settingOf
+  report-rows x = rw (report-right (needsNumber access guarded (x .page)))
 
-reply-reached : {P : Type 0} (access : Access P) (x : State P) → length (replyOf 0x02 (messageOutcome access x sixteenReports)) ≡ 166
-unfolding messageOutcome
-reply-reached access x =
-    rw (sixteen-pass, message-length, sixteen-are) (omega (arith, reports-rows access x 16))
+  reports-rows : (x : State P) (n : ℕ) → length (fieldsOutcome access guarded x (reports n) .rows) ≡ 10 * n
+  unfolding fieldsOutcome
+  reports-rows x zero = refl
+  reports-rows x (suc n) =
+      let a = fieldOutcome access guarded x report in
+      rw (length-append (a .rows)) (omega (arith, report-rows x, reports-rows (a .next) n))
+
+reply-reached : {P : Type 0} (access : Access P) (port : ℕ) (x : State P) → length (replyOf 0x02 (messageOutcome access port x sixteenReports)) ≡ 166
+unfolding messageOutcome commandOutcome
+reply-reached access port x = rw (sixteen-pass, message-length, sixteen-are) (omega (arith, reports-rows access (eqb port 0) x 16))
 
 pub longest-reply : LongestReply
-longest-reply = record { most = λ P access x m. reply-most access x m; reached = λ P access x. reply-reached access x }
+longest-reply = record { most = λ P access port x m. reply-most access port x m; reached = λ P access port x. reply-reached access port x }

@@ -2,10 +2,10 @@
 use Prim.Native.Nat.{ℕ, suc, _+_, _≤_, _<_}
 use native.Mathlib.Omega.{arith}
 use mathlib.Core.Path.{_≡_, refl, sym, _∙_}
-use mathlib.Core.Bool.{Bool, true, false, _&&_, _||_, not, or-false}
+use mathlib.Core.Bool.{Bool, true, false, _&&_, _||_, not, or-false, and-true, and-false}
 use mathlib.Core.List.{List, [], _∷_}
 use mathlib.Core.Option.{Option, none, some}
-use lib.Dec.{eqb, ltb}
+use lib.Dec.{eqb, leb, ltb}
 use lib.ListN.{length, take}
 use Rattle.stream.proofs.Bools.{differ}
 use borrow.Author.Tests.{eq-eqb, ne-eqb, le-leb, lt-leb, not-true, not-false, ltb-false}
@@ -19,8 +19,8 @@ use Rattle.command.specs.declared.command.Subject.the-variants.{Ping, Se
 use Rattle.command.specs.Command.{valueFor, subjectOf}
 use Rattle.message.specs.Fields.{Field, consField, fieldsPast, fieldsOf}
 use Rattle.message.specs.Whole.{refuse}
-use Rattle.command.specs.Errors.{isUnknown, fieldWrong, fieldError, fieldsRefused, isKind, messageError}
-use Rattle.command.specs.Outcome.{fieldsIn}
+use Rattle.command.specs.Errors.{isUnknown, isFunction, fieldWrong, fieldError, alters, fieldsRefused, isKind, commandError}
+use Rattle.command.specs.Handle.{fieldsIn}
 use Rattle.command.specs.Effects.{settingsAllowed}
 
 -- ---- the size
@@ -85,69 +85,93 @@ module _ (subject : Subject) (c : Command) where
   unfolding fieldWrong
   wrong-unknown e = rw e
 
+-- ---- functions 1, 3, 4 and 5
+
+module _ (f : ℕ) where
+  pub altering-low : f < 1 → false ≡ isFunction f && not (eqb f 2)
+  altering-low h = rw (lt-leb 1 f h)
+
+  pub altering-two : f ≡ 2 → false ≡ isFunction f && not (eqb f 2)
+  altering-two e = rw e
+
+  pub altering-but : 1 ≤ f → (f ≡ 2 → ⊥) → leb f 5 ≡ isFunction f && not (eqb f 2)
+  altering-but l n = rw (le-leb 1 f l, ne-eqb f 2 n, and-true (leb f 5))
+
+module _ (subject : Subject) (c : Command) where
+  pub alters-setting : (s : Setting) → subject ≡ About s → (r : Bool) → r ≡ isFunction (c .function) && not (eqb (c .function) 2) → r ≡ alters subject c
+  alters-setting s e r h = rw (e, h)
+
+-- Where a number is missing.
+module _ (guarded : Bool) (a : Bool) (kept : Bool) where
+  pub missing-open : not guarded ≡ true → false ≡ guarded && kept && a
+  missing-open e = rw (not-true guarded e)
+
+  pub missing-not : not guarded ≡ false → (b : Bool) → b ≡ a → not b ≡ true → false ≡ guarded && kept && a
+  missing-not e b bs h = rw (not-false guarded e, ← bs, not-true b h, and-false kept)
+
+  pub missing-kept : not guarded ≡ false → (b : Bool) → b ≡ a → not b ≡ false → (r : Bool) → r ≡ kept → r ≡ guarded && kept && a
+  missing-kept e b bs h r rs = rw (rs, not-false guarded e, ← bs, not-false b h, and-true kept)
+
 -- The field's error, with what it is about.
-module _ (c : Command) (subject : Subject) (is : subject ≡ subjectOf (c .kind) (c .code)) (u : Bool) (us : u ≡ isUnknown subject) where
-  pub error-unknown : u ≡ true → 3 ≡ fieldError c
+module _ (needs : Bool) (c : Command) (subject : Subject) (is : subject ≡ subjectOf (c .kind) (c .code)) (u : Bool) (us : u ≡ isUnknown subject) where
+  pub error-unknown : u ≡ true → 3 ≡ fieldError needs c
   unfolding fieldError
   error-unknown e = rw (← is, ← us, e)
 
-  module _ (known : u ≡ false) (w : Bool) (ws : w ≡ fieldWrong subject c) where
-    pub error-field : w ≡ true → 4 ≡ fieldError c
+  module _ (known : u ≡ false) (n : Bool) (ns : n ≡ needs && alters subject c) where
+    pub error-number : n ≡ true → 5 ≡ fieldError needs c
     unfolding fieldError
-    error-field e = rw (← is, ← us, known, ← ws, e)
+    error-number e = rw (← is, ← us, known, ← ns, e)
 
-    pub error-none : w ≡ false → 0 ≡ fieldError c
-    unfolding fieldError
-    error-none e = rw (← is, ← us, known, ← ws, e)
+    module _ (free : n ≡ false) (w : Bool) (ws : w ≡ fieldWrong subject c) where
+      pub error-field : w ≡ true → 4 ≡ fieldError needs c
+      unfolding fieldError
+      error-field e = rw (← is, ← us, known, ← ns, free, ← ws, e)
 
--- ---- the message
+      pub error-none : w ≡ false → 0 ≡ fieldError needs c
+      unfolding fieldError
+      error-none e = rw (← is, ← us, known, ← ns, free, ← ws, e)
 
--- The error of a message as a whole, test by test.
-module _ (good : Bool) (kind : ℕ) (payload : List ℕ) where
-  pub error-damaged : not good ≡ true → 1 ≡ messageError good kind payload
-  unfolding messageError
-  error-damaged e = rw e
+-- ---- a command as a whole
 
-  module _ (right : not good ≡ false) (k : Bool) (ks : k ≡ isKind kind) where
-    pub error-other : not k ≡ true → 2 ≡ messageError good kind payload
-    unfolding messageError
-    error-other e = rw (right, ← ks, e)
+-- Its error, test by test.
+module _ (kind : ℕ) (payload : List ℕ) (k : Bool) (ks : k ≡ isKind kind) where
+  pub error-other : not k ≡ true → 2 ≡ commandError kind payload
+  unfolding commandError
+  error-other e = rw (← ks, e)
 
-    module _ (known : not k ≡ false) where
-      pub error-empty : length payload ≡ 0 → 3 ≡ messageError good kind payload
-      unfolding messageError
-      error-empty h = rw (right, ← ks, known, eq-eqb (length payload) 0 h)
+  module _ (known : not k ≡ false) where
+    pub error-empty : length payload ≡ 0 → 3 ≡ commandError kind payload
+    unfolding commandError
+    error-empty h = rw (← ks, known, eq-eqb (length payload) 0 h)
 
-      module _ (some : length payload ≡ 0 → ⊥) (fit : Bool) (is : fit ≡ not (fieldsRefused (fieldsOf payload))) where
-        pub error-fit : fit ≡ true → 0 ≡ messageError good kind payload
-        unfolding messageError
-        error-fit e = rw (right, ← ks, known, ne-eqb (length payload) 0 some, not-true (fieldsRefused (fieldsOf payload)) (sym is ∙ e))
+    module _ (some : length payload ≡ 0 → ⊥) (fit : Bool) (is : fit ≡ not (fieldsRefused (fieldsOf payload))) where
+      pub error-fit : fit ≡ true → 0 ≡ commandError kind payload
+      unfolding commandError
+      error-fit e = rw (← ks, known, ne-eqb (length payload) 0 some, not-true (fieldsRefused (fieldsOf payload)) (sym is ∙ e))
 
-        pub error-unfit : fit ≡ false → 4 ≡ messageError good kind payload
-        unfolding messageError
-        error-unfit e = rw (right, ← ks, known, ne-eqb (length payload) 0 some, not-false (fieldsRefused (fieldsOf payload)) (sym is ∙ e))
+      pub error-unfit : fit ≡ false → 4 ≡ commandError kind payload
+      unfolding commandError
+      error-unfit e = rw (← ks, known, ne-eqb (length payload) 0 some, not-false (fieldsRefused (fieldsOf payload)) (sym is ∙ e))
 
 -- A chain of tests gives 0 only where none holds.
 pub none-refused : (b : Bool) (n next : ℕ) → refuse b (suc n) next ≡ 0 → (b ≡ false) × (next ≡ 0)
 none-refused false n next e = (refl, e)
 none-refused true n next e = let z : suc n ≡ 0 = e in absurd (omega arith)
 
--- A message that is not refused as a whole has passed all tests.
-pub record Passed (good : Bool) (kind : ℕ) (payload : List ℕ) : Type 0 where
-  pub good-sums : good ≡ true
+-- A command that is not refused as a whole has passed all tests.
+pub record Passed (kind : ℕ) (payload : List ℕ) : Type 0 where
   pub kind-known : eqb kind 0x01 || eqb kind 0x02 ≡ true
   pub some : eqb (length payload) 0 ≡ false
   pub fit : fieldsRefused (fieldsOf payload) ≡ false
 
-pub message-passed : (good : Bool) (kind : ℕ) (payload : List ℕ) → messageError good kind payload ≡ 0 → Passed good kind payload
-unfolding messageError
-message-passed good kind payload e =
-    let one = none-refused (not good) 0 _ e in
-    let two = none-refused (not (eqb kind 0x01 || eqb kind 0x02)) 1 _ (one .1) in
+pub command-passed : (kind : ℕ) (payload : List ℕ) → commandError kind payload ≡ 0 → Passed kind payload
+unfolding commandError
+command-passed kind payload e =
+    let two = none-refused (not (eqb kind 0x01 || eqb kind 0x02)) 1 _ e in
     let three = none-refused (eqb (length payload) 0) 2 _ (two .1) in
     let four = none-refused (fieldsRefused (fieldsOf payload)) 3 0 (three .1) in
     record {
-      good-sums = not-false good (one .0);
       kind-known = not-false (eqb kind 0x01 || eqb kind 0x02) (two .0);
       some = three .0;
       fit = four .0;
@@ -159,11 +183,11 @@ few-fields none e = differ e
 few-fields (some fs) e = ltb-false 16 (length fs) e
 
 -- It has 1 to 16 fields.
-pub fields-some : (good : Bool) (kind : ℕ) (payload : List ℕ) → messageError good kind payload ≡ 0
+pub fields-some : (kind : ℕ) (payload : List ℕ) → commandError kind payload ≡ 0
     → (1 ≤ length (fieldsIn (fieldsOf payload))) × (length (fieldsIn (fieldsOf payload)) ≤ 16)
 unfolding fieldsOf
-fields-some good kind payload e =
-    let p = message-passed good kind payload e in
+fields-some kind payload e =
+    let p = command-passed kind payload e in
     go payload (p .some) (fieldsPast 0 payload) refl (p .fit)
   where
     none-first : (f : Field) (o : Option (List Field)) → consField f o ≡ some [] → ⊥

@@ -7,14 +7,16 @@ use lib.ListN.{length, getD, take}
 use Rattle.word.specs.Word.{number}
 use Rattle.page.specs.declared.setting.Setting.{Setting}
 use Rattle.page.specs.declared.setting.Setting.the-variants.{Baud, Accelerometer, Gyroscope}
-use Rattle.page.specs.Settings.{codeOf}
-use Rattle.page.specs.Page.{withValue, factoryPage}
+use Rattle.page.specs.declared.setting.Stored.{Stored}
+use Rattle.page.specs.Settings.{codeOf, Key, valueOf, lastNumber}
+use Rattle.page.specs.Page.{withKey, factoryPage}
 use Rattle.page.specs.Lookup.{bodyOf, valuesIn}
 use Rattle.page.specs.Sound.{pageWriting}
 use Rattle.message.specs.Write.{doneWriting}
 use Rattle.command.specs.declared.settings.Settings.{Settings}
 use Rattle.command.specs.declared.answer.Answer.{Answer}
-use Rattle.command.specs.Outcome.{Access, Outcome, Received, replyOf, messageOutcome}
+use Rattle.command.specs.Outcome.{Access, Outcome, Received, replyOf}
+use Rattle.command.specs.Handle.{messageOutcome}
 
 -- The value in a body: its four bytes, or its one.
 abbrev pub bodyValue : Setting → List ℕ → ℕ
@@ -30,13 +32,24 @@ loadedFrom page s = bodyValue s (bodyOf page factoryPage (codeOf s))
 unfoldable pub settingsFrom : List ℕ → Settings
 settingsFrom page = record { baud = loadedFrom page Baud; accelerometer = loadedFrom page Accelerometer; gyroscope = loadedFrom page Gyroscope }
 
--- A save puts its value in, keeps the other entries, and writes the page anew.
-abbrev pub savedOn : List ℕ → Setting → ℕ → List ℕ
-savedOn page s x = pageWriting (withValue (valuesIn page) s x) page .page
+-- A value put in: the other entries are kept, and the page is written anew.
+abbrev pub putOn : List ℕ → Key → ℕ → List ℕ
+putOn page k x = pageWriting (withKey (valuesIn page) k x) page .page
 
--- What a message on this port may do with the board's page, of 64 bytes.
-abbrev pub pageAccess : ℕ → Access (List ℕ)
-pageAccess port = record { port = port; loaded = loadedFrom; save = savedOn }
+-- A save, and a fresh number.
+abbrev pub savedOn : List ℕ → Setting → ℕ → List ℕ
+savedOn page s x = putOn page (valueOf s) x
+
+abbrev pub spentOn : List ℕ → ℕ → List ℕ
+spentOn page n = putOn page lastNumber n
+
+-- The last number accepted.
+abbrev pub numberOn : List ℕ → Stored
+numberOn page = valuesIn page .number
+
+-- The board keeps a page, of 64 bytes.
+abbrev pub pageAccess : Access (List ℕ)
+pageAccess = record { loaded = loadedFrom; save = savedOn; lastNumber = numberOn; putNumber = spentOn }
 
 -- The longest reply is 166 bytes: 6, and for each of 16 fields at most 10. 18: a feed's room under that.
 abbrev pub replyRoom : ℕ
@@ -64,4 +77,4 @@ answerOn false kind o w room page = answerWith kind o room
 
 unfoldable pub answering : ℕ → Received → Settings → List ℕ → List ℕ → Answering
 answering port m w room page =
-    answerOn (ltb (length room) replyRoom) (m .kind) (messageOutcome (pageAccess port) (record { settings = w; page = page }) m) w room page
+    answerOn (ltb (length room) replyRoom) (m .kind) (messageOutcome pageAccess port (record { settings = w; page = page }) m) w room page

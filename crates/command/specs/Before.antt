@@ -1,5 +1,5 @@
--- Document 01's handling before request 02, when a message had one field, and what the request left of it. No other file uses these
--- definitions.
+-- Document 01's handling before requests 02 and 03, when a message had one field and no number, and what the requests left of it. No
+-- other file uses these definitions.
 use mathlib.Core.Path.{_≡_}
 use mathlib.Core.Bool.{true, _||_, not, cond}
 use mathlib.Core.List.{List, [], _∷_}
@@ -12,8 +12,10 @@ use Rattle.message.specs.Whole.{refuse}
 use Rattle.command.specs.declared.command.Command.{Command}
 use Rattle.command.specs.Command.{commandOf, subjectOf}
 use Rattle.command.specs.Errors.{isUnknown, fieldWrong, fieldsRefused, isKind}
+use Rattle.command.specs.Numbers.{numberedKind}
 use Rattle.command.specs.Effects.{fieldEffect, effectOn}
-use Rattle.command.specs.Outcome.{Access, State, Outcome, Received, idle, rowOutcome, effectOutcome, messageOutcome}
+use Rattle.command.specs.Outcome.{Access, State, Outcome, Received, idle, rowOutcome, effectOutcome}
+use Rattle.command.specs.Handle.{messageOutcome}
 
 -- The whole payload as one field, whatever its size says.
 abbrev pub oneField : List ℕ → Field
@@ -39,19 +41,20 @@ outcomeBefore access x m =
     (effectOn (errorBefore m) (fieldEffect (subjectOf (m .kind) (getD (m .payload) 0 0)) (access .loaded (x .page)) (x .settings) (oneCommand m)) (x .settings))
     x)
 
--- What a message is handled to, now and before.
+-- What a message is handled to, now and before: one that is not of type 7C, on port 1. (On port 0 it is the same as long as the page
+-- has no number: `WithoutNumber` in Numbered.)
 pub record NowAndBefore {P : Type 0} (access : Access P) (x : State P) (m : Received) : Type 0 where
   -- One field, no field, wrong sums, another type: as before.
-  pub one-field : (f : Field) → fieldsOf (m .payload) ≡ some (f ∷ []) → messageOutcome access x m ≡ outcomeBefore access x m
-  pub no-field : m .payload ≡ [] → messageOutcome access x m ≡ outcomeBefore access x m
-  pub refused : not (m .good) || not (isKind (m .kind)) ≡ true → messageOutcome access x m ≡ outcomeBefore access x m
+  pub one-field : (f : Field) → fieldsOf (m .payload) ≡ some (f ∷ []) → messageOutcome access 1 x m ≡ outcomeBefore access x m
+  pub no-field : m .payload ≡ [] → messageOutcome access 1 x m ≡ outcomeBefore access x m
+  pub refused : not (m .good) || not (isKind (m .kind)) ≡ true → messageOutcome access 1 x m ≡ outcomeBefore access x m
   -- A payload that fields do not fill, L = 1 among them, or more than 16: 4 now. Before, it was 3 where its first byte is an unknown
   -- code, else 4.
   pub unfilled : m .good ≡ true → isKind (m .kind) ≡ true → fieldsRefused (fieldsOf (m .payload)) ≡ true
-      → messageOutcome access x m ≡ rowOutcome (getD (m .payload) 0 0) 4 (idle x)
+      → messageOutcome access 1 x m ≡ rowOutcome (getD (m .payload) 0 0) 4 (idle x)
   pub unfilled-before : m .good ≡ true → isKind (m .kind) ≡ true → fieldsRefused (fieldsOf (m .payload)) ≡ true
       → outcomeBefore access x m ≡ rowOutcome (getD (m .payload) 0 0) (cond (isUnknown (subjectOf (m .kind) (getD (m .payload) 0 0))) 3 4) (idle x)
 
 -- Proof: Before `one-as-before`.
 abbrev pub OneAsBefore : Type 1
-OneAsBefore = (P : Type 0) (access : Access P) (x : State P) (m : Received) → NowAndBefore access x m
+OneAsBefore = (P : Type 0) (access : Access P) (x : State P) (m : Received) → (m .kind ≡ numberedKind → ⊥) → NowAndBefore access x m

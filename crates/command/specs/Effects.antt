@@ -73,5 +73,5 @@ effectOn zero e w = e
 effectOn (suc n) e w = leaving w
 
 -- The effect of a field with its own error.
-unfoldable pub effectOf : (Setting → ℕ) → Settings → Command → Effect
-effectOf loaded w c = effectOn (fieldError c) (fieldEffect (subjectOf (c .kind) (c .code)) loaded w c) w
+unfoldable pub effectOf : Bool → (Setting → ℕ) → Settings → Command → Effect
+effectOf needsNumber loaded w c = effectOn (fieldError needsNumber c) (fieldEffect (subjectOf (c .kind) (c .code)) loaded w c) w

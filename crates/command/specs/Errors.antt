@@ -1,4 +1,4 @@
--- Document 01, "Handling one message", and request 02: the errors, first that applies; of a message as a whole, and of a field.
+-- Document 01, "Handling one message", and requests 02 and 03: the errors, first that applies; of a field, and of a command as a whole.
 use mathlib.Core.Bool.{Bool, true, false, _&&_, _||_, not}
 use mathlib.Core.List.{List}
 use mathlib.Core.Option.{Option, none, some}
@@ -47,16 +47,24 @@ fieldWrong subject c = not (sizeRight subject c) || not (functionRight subject c
 
 -- ---- one field
 
--- 3: the code is not one of this type's. 4: size wrong; function not 1 to 5; value not allowed. 0: otherwise.
-unfoldable pub fieldError : Command → ℕ
-fieldError c =
+-- Functions 1, 3, 4 and 5 of a setting.
+abbrev pub alters : Subject → Command → Bool
+alters Ping c = false
+alters (About s) c = isFunction (c .function) && not (eqb (c .function) 2)
+alters Unknown c = false
+
+-- 3: the code is not one of this type's. 5: functions 1, 3, 4 and 5, where they need a number. 4: size wrong; function not 1 to 5;
+-- value not allowed. 0: otherwise.
+unfoldable pub fieldError : Bool → Command → ℕ
+fieldError needsNumber c =
     refuse (isUnknown (subjectOf (c .kind) (c .code))) 3
+    (refuse (needsNumber && alters (subjectOf (c .kind) (c .code)) c) 5
     (refuse (fieldWrong (subjectOf (c .kind) (c .code)) c) 4
-    0)
+    0))
 
--- ---- one message, before any code
+-- ---- a command as a whole
 
--- A message carries 1 to 16 fields.
+-- A command has 1 to 16 fields.
 abbrev pub mostFields : ℕ
 mostFields = 16
 
@@ -69,12 +77,11 @@ fieldsRefused (some fs) = ltb mostFields (length fs)
 abbrev pub isKind : ℕ → Bool
 isKind kind = eqb kind 0x01 || eqb kind 0x02
 
--- 1: sums wrong. 2: type neither 01 nor 02. 3: L = 0. 4: fields do not fill the payload exactly, or are more than 16. 0: each field
--- has its own error.
-unfoldable pub messageError : Bool → ℕ → List ℕ → ℕ
-messageError good kind payload =
-    refuse (not good) 1
-    (refuse (not (isKind kind)) 2
+-- 2: type neither 01 nor 02. 3: no payload. 4: fields do not fill the payload exactly, or are more than 16. 0: each field has its own
+-- error.
+unfoldable pub commandError : ℕ → List ℕ → ℕ
+commandError kind payload =
+    refuse (not (isKind kind)) 2
     (refuse (eqb (length payload) 0) 3
     (refuse (fieldsRefused (fieldsOf payload)) 4
-    0)))
+    0))

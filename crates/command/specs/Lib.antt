@@ -3,7 +3,12 @@ pub mod Before
 pub mod Command
 pub mod Effects
 pub mod Errors
+pub mod Examples
+pub mod Handle
+pub mod Numbered
+pub mod Numbers
 pub mod Outcome
 pub mod Place
+pub mod Puts
 pub mod Several
 pub mod Theorems

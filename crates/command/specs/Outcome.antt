@@ -1,17 +1,17 @@
--- Document 01, "Handling one message", and request 02: what a field, and a message of 1 to 16 fields, leave; and the reply. Over any
--- keeping of the page's values: the board keeps a page of 64 bytes, the plain reckoning the values under codes.
-use mathlib.Core.Bool.{Bool, true, false, _||_}
+-- Document 01, "Handling one message", and requests 02 and 03: what a field and a row of fields leave; and the reply. Over any keeping of
+-- the page's values: the board keeps a page of 64 bytes, the plain reckoning the values under codes.
+use mathlib.Core.Bool.{Bool, true, false, _&&_, _||_}
 use mathlib.Core.List.{List, [], _∷_, _++_}
 use mathlib.Core.Option.{Option, none, some}
-use Prim.Native.Nat.{ℕ, zero, suc}
-use lib.ListN.{getD}
+use Prim.Native.Nat.{ℕ}
 use Rattle.page.specs.declared.setting.Setting.{Setting}
-use Rattle.message.specs.Fields.{Field, fieldsOf}
+use Rattle.page.specs.declared.setting.Stored.{Stored}
+use Rattle.page.specs.Page.{isThere}
 use Rattle.message.specs.Message.{messageOf, typeOf, payloadOf}
 use Rattle.command.specs.declared.settings.Settings.{Settings}
 use Rattle.command.specs.declared.command.Command.{Command}
-use Rattle.command.specs.Command.{subjectOf, commandsOf}
-use Rattle.command.specs.Errors.{fieldError, messageError}
+use Rattle.command.specs.Command.{subjectOf}
+use Rattle.command.specs.Errors.{fieldError}
 use Rattle.command.specs.Effects.{workingValue, Effect, fieldEffect, effectOn}
 
 -- ---- what handling is given
@@ -26,12 +26,13 @@ pub record Received : Type 0 where
 unfoldable pub receivedOf : Bool → List ℕ → Received
 receivedOf good m = record { good = good; kind = typeOf m; payload = payloadOf m }
 
--- What a message may do on the board: the port that it came on (no rule asks for it yet), the value that is loaded of a setting,
--- and the page with a value saved.
+-- How the page's values are kept: the value that is loaded of a setting, the page with a value saved, the last number accepted, and
+-- the page with a number put in.
 pub record Access (P : Type 0) : Type 0 where
-  pub port : ℕ
   pub loaded : P → Setting → ℕ
   pub save : P → Setting → ℕ → P
+  pub lastNumber : P → Stored
+  pub putNumber : P → ℕ → P
 
 -- The working values, and the page.
 pub record State (P : Type 0) : Type 0 where
@@ -40,7 +41,7 @@ pub record State (P : Type 0) : Type 0 where
 
 -- ---- what handling gives
 
--- The fields of the reply, whether a save was accepted, and what is left.
+-- The fields of the reply, the mark of a save, and what is left.
 pub record Outcome (P : Type 0) : Type 0 where
   pub rows : List ℕ
   pub saved : Bool
@@ -96,27 +97,15 @@ module _ {P : Type 0} (access : Access P) where
       rowOutcome (c .code) error
       (effectOutcome (access .save) (effectOn error (fieldEffect (subjectOf (c .kind) (c .code)) (access .loaded (x .page)) (x .settings) c) (x .settings)) x)
 
+  -- "Once the page has the entry, functions 1, 3, 4 and 5 without a number on port 0 are refused": `guarded` says that a field came so.
+  abbrev pub needsNumber : Bool → P → Bool
+  needsNumber guarded page = guarded && isThere (access .lastNumber page)
+
   -- One field handled.
-  unfoldable pub fieldOutcome : State P → Command → Outcome P
-  fieldOutcome x c = fieldOn (fieldError c) x c
+  unfoldable pub fieldOutcome : Bool → State P → Command → Outcome P
+  fieldOutcome guarded x c = fieldOn (fieldError (needsNumber guarded (x .page)) c) x c
 
   -- The fields in order, each on what those before it left.
-  unfoldable pub fieldsOutcome : State P → List Command → Outcome P
-  fieldsOutcome x [] = idle x
-  fieldsOutcome x (c ∷ cs) = thenOutcome (fieldOutcome x c) (fieldsOutcome (fieldOutcome x c .next) cs)
-
--- ---- one message
-
--- The fields of a payload, none where they do not fill it.
-abbrev pub fieldsIn : Option (List Field) → List Field
-fieldsIn none = []
-fieldsIn (some fs) = fs
-
-module _ {P : Type 0} (access : Access P) where
-  -- A message that is refused as a whole changes nothing and gets one row, which echoes the first payload byte, or 0 if L = 0.
-  abbrev pub messageOn : ℕ → State P → ℕ → List ℕ → Outcome P
-  messageOn zero x kind payload = fieldsOutcome access x (commandsOf kind (fieldsIn (fieldsOf payload)))
-  messageOn (suc n) x kind payload = rowOutcome (getD payload 0 0) (suc n) (idle x)
-
-  unfoldable pub messageOutcome : State P → Received → Outcome P
-  messageOutcome x m = messageOn (messageError (m .good) (m .kind) (m .payload)) x (m .kind) (m .payload)
+  unfoldable pub fieldsOutcome : Bool → State P → List Command → Outcome P
+  fieldsOutcome guarded x [] = idle x
+  fieldsOutcome guarded x (c ∷ cs) = thenOutcome (fieldOutcome guarded x c) (fieldsOutcome guarded (fieldOutcome guarded x c .next) cs)

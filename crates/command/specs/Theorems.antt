@@ -1,16 +1,16 @@
 -- What is proved of handling, beyond the contracts of the code. Each statement names its proof, a term of that type in a file of
 -- proofs/.
 use mathlib.Core.Path.{_≡_}
-use mathlib.Core.Bool.{Bool, true, false}
-use mathlib.Core.List.{List, [], _∷_, _++_}
+use mathlib.Core.Bool.{Bool, true, false, not}
+use mathlib.Core.List.{List, _++_}
 use mathlib.Core.Option.{some}
-use Prim.Native.Nat.{ℕ, _+_, _≤_}
+use Prim.Native.Nat.{ℕ, _+_, _≤_, _<_}
 use lib.ListN.{length, drop}
 use Rattle.page.specs.declared.setting.Setting.{Setting}
-use Rattle.page.specs.Settings.{allowed, factoryValue}
+use Rattle.page.specs.Settings.{allowed, factoryValue, Key, keyAllowed}
 use Rattle.page.specs.Page.{storedIn}
 use Rattle.page.specs.Lookup.{valuesIn}
-use Rattle.page.specs.Sound.{sound, savedPage}
+use Rattle.page.specs.Sound.{sound, putPage, savedPage}
 use Rattle.page.specs.Theorems.{valueOr}
 use Rattle.message.specs.Message.{lengthOf}
 use Rattle.command.specs.declared.settings.Settings.{Settings}
@@ -19,30 +19,32 @@ use Rattle.command.specs.declared.command.Subject.the-variants.{Setting 
 use Rattle.command.specs.Command.{subjectOf}
 use Rattle.command.specs.Errors.{fieldError}
 use Rattle.command.specs.Effects.{workingValue, effectOf, settingsAllowed}
-use Rattle.command.specs.Outcome.{State, Received, receivedOf, replyOf, fieldOutcome, messageOutcome}
-use Rattle.command.specs.Answer.{loadedFrom, savedOn, pageAccess, replyRoom, Answering, answering}
+use Rattle.command.specs.Outcome.{State, Received, receivedOf, replyOf, needsNumber, fieldOutcome}
+use Rattle.command.specs.Handle.{messageOutcome}
+use Rattle.command.specs.Puts.{putsOn, isEmpty, messagePuts}
+use Rattle.command.specs.Answer.{loadedFrom, putOn, pageAccess, replyRoom, answering}
 
 -- ---- one field
 
 -- It keeps the working values allowed, whatever the command, if what is loaded is allowed. Proof: Keeps `keeps-allowed`.
 abbrev pub KeepsAllowed : Type 0
 KeepsAllowed =
-    (loaded : Setting → ℕ) (w : Settings) (c : Command) → ((s : Setting) → allowed s (loaded s) ≡ true)
-    → settingsAllowed w ≡ true → settingsAllowed (effectOf loaded w c .settings) ≡ true
+    (needs : Bool) (loaded : Setting → ℕ) (w : Settings) (c : Command) → ((s : Setting) → allowed s (loaded s) ≡ true)
+    → settingsAllowed w ≡ true → settingsAllowed (effectOf needs loaded w c .settings) ≡ true
 
 -- A save of a setting is accepted where there is no error, the command is about that setting and its function is 3, and
 -- nowhere else.
-pub record SaveOf (c : Command) (s : Setting) : Type 0 where
-  pub no-error : fieldError c ≡ 0
+pub record SaveOf (needs : Bool) (c : Command) (s : Setting) : Type 0 where
+  pub no-error : fieldError needs c ≡ 0
   pub about : subjectOf (c .kind) (c .code) ≡ About s
   pub function : c .function ≡ 3
 
 -- Proofs: Keeps `saves-only`, `saves-then`.
 abbrev pub SavesOnly : Type 0
-SavesOnly = (loaded : Setting → ℕ) (w : Settings) (c : Command) (s : Setting) → effectOf loaded w c .saves ≡ some s → SaveOf c s
+SavesOnly = (needs : Bool) (loaded : Setting → ℕ) (w : Settings) (c : Command) (s : Setting) → effectOf needs loaded w c .saves ≡ some s → SaveOf needs c s
 
 abbrev pub SavesThen : Type 0
-SavesThen = (loaded : Setting → ℕ) (w : Settings) (c : Command) (s : Setting) → SaveOf c s → effectOf loaded w c .saves ≡ some s
+SavesThen = (needs : Bool) (loaded : Setting → ℕ) (w : Settings) (c : Command) (s : Setting) → SaveOf needs c s → effectOf needs loaded w c .saves ≡ some s
 
 -- ---- the board's page
 
@@ -55,39 +57,32 @@ pub record LoadedValue (page : List ℕ) (s : Setting) : Type 0 where
 abbrev pub LoadsStored : Type 0
 LoadsStored = (page : List ℕ) (s : Setting) → sound page ≡ true → LoadedValue page s
 
--- A save on a sound page puts an allowed value in, keeps the other entries, and leaves a sound page.
-pub record PageKept (page : List ℕ) (s : Setting) (x : ℕ) : Type 0 where
-  pub saved-page : savedOn page s x ≡ savedPage page s x
-  pub sound-page : sound (savedOn page s x) ≡ true
+-- What is put in on a sound page is there, the other entries are kept, and the page stays sound: an allowed value, or a number of four
+-- bytes.
+pub record PageKept (page : List ℕ) (k : Key) (x : ℕ) : Type 0 where
+  pub put-page : putOn page k x ≡ putPage page k x
+  pub sound-page : sound (putOn page k x) ≡ true
 
 -- Proof: Pages `page-changes`.
 abbrev pub PageChanges : Type 0
-PageChanges = (page : List ℕ) (s : Setting) (x : ℕ) → sound page ≡ true → allowed s x ≡ true → PageKept page s x
+PageChanges = (page : List ℕ) (k : Key) (x : ℕ) → sound page ≡ true → keyAllowed k x ≡ true → PageKept page k x
 
 -- One field on a sound page with allowed settings: an accepted save is marked and puts the working value in, and nothing else is
 -- marked or changes the page.
-pub record FieldKept (port : ℕ) (x : State (List ℕ)) (c : Command) : Type 0 where
-  pub saved : (s : Setting) → SaveOf c s
-      → (fieldOutcome (pageAccess port) x c .saved ≡ true) × (fieldOutcome (pageAccess port) x c .next .page ≡ savedPage (x .page) s (workingValue (x .settings) s))
-  pub unsaved : ((s : Setting) → SaveOf c s → ⊥) → (fieldOutcome (pageAccess port) x c .saved ≡ false) × (fieldOutcome (pageAccess port) x c .next .page ≡ x .page)
+pub record FieldKept (guarded : Bool) (x : State (List ℕ)) (c : Command) : Type 0 where
+  pub saved : (s : Setting) → SaveOf (needsNumber pageAccess guarded (x .page)) c s
+      → (fieldOutcome pageAccess guarded x c .saved ≡ true) × (fieldOutcome pageAccess guarded x c .next .page ≡ savedPage (x .page) s (workingValue (x .settings) s))
+  pub unsaved : ((s : Setting) → SaveOf (needsNumber pageAccess guarded (x .page)) c s → ⊥)
+      → (fieldOutcome pageAccess guarded x c .saved ≡ false) × (fieldOutcome pageAccess guarded x c .next .page ≡ x .page)
 
 -- Proof: Pages `field-keeps`.
 abbrev pub FieldKeeps : Type 0
-FieldKeeps = (port : ℕ) (x : State (List ℕ)) (c : Command) → sound (x .page) ≡ true → settingsAllowed (x .settings) ≡ true → FieldKept port x c
-
--- Values put in one after the other.
-pub record Saved : Type 0 where
-  pub setting : Setting
-  pub value : ℕ
-
-abbrev pub savesOn : List ℕ → List Saved → List ℕ
-savesOn page [] = page
-savesOn page (s ∷ ss) = savesOn (savedPage page (s .setting) (s .value)) ss
+FieldKeeps = (guarded : Bool) (x : State (List ℕ)) (c : Command) → sound (x .page) ≡ true → settingsAllowed (x .settings) ≡ true → FieldKept guarded x c
 
 -- ---- the answer to a message
 
 abbrev pub replyTo : ℕ → Received → Settings → List ℕ → List ℕ
-replyTo port m w page = replyOf (m .kind) (messageOutcome (pageAccess port) (record { settings = w; page = page }) m)
+replyTo port m w page = replyOf (m .kind) (messageOutcome pageAccess port (record { settings = w; page = page }) m)
 
 -- In a room of 166 bytes the reply is written whole, from the room's front, and nothing else of the room is touched. Proof: Pages
 -- `reply-whole`.
@@ -96,24 +91,20 @@ ReplyWhole =
     (port : ℕ) (m : Received) (w : Settings) (room page : List ℕ) → replyRoom ≤ length room
     → answering port m w room page .room ≡ replyTo port m w page ++ drop (length (replyTo port m w page)) room
 
--- The page after some saves, of which there is one where a save is marked.
-pub record SavedIn (saved : Bool) (page after : List ℕ) : Type 0 where
-  pub saves : List Saved
-  pub written : after ≡ savesOn page saves
-  pub at-least-one : saved ≡ true → 1 ≤ length saves
-  pub no-save : saved ≡ false → saves ≡ []
-
--- Answering a message on a sound page with allowed settings keeps both so. The page changes where a save is marked, to the
--- page with the saved values put in, and nowhere else. Proof: Pages `answer-keeps`.
-pub record KeptBy (page : List ℕ) (a : Answering) : Type 0 where
-  pub settings-allowed : settingsAllowed (a .answer .settings) ≡ true
-  pub page-sound : sound (a .page) ≡ true
-  pub saved : SavedIn (a .answer .saved) page (a .page)
+-- Answering a message on a sound page with allowed settings keeps both so. The page changes on accepted saves and fresh numbers, and on
+-- nothing else: exactly these values are put in, and the mark is set where there is one. Proof: Pages `answer-keeps`.
+pub record KeptBy (port : ℕ) (m : Received) (w : Settings) (room page : List ℕ) : Type 0 where
+  pub settings-allowed : settingsAllowed (answering port m w room page .answer .settings) ≡ true
+  pub page-sound : sound (answering port m w room page .page) ≡ true
+  pub page-after : replyRoom ≤ length room → answering port m w room page .page ≡ putsOn page (messagePuts port (record { settings = w; page = page }) m)
+  pub mark : replyRoom ≤ length room → answering port m w room page .answer .saved ≡ not (isEmpty (messagePuts port (record { settings = w; page = page }) m))
+  -- In a smaller room nothing changes.
+  pub small-room : length room < replyRoom
+      → answering port m w room page ≡ record { answer = record { saved = false; settings = w }; room = room; page = page }
 
 abbrev pub AnswerKeeps : Type 0
 AnswerKeeps =
-    (port : ℕ) (m : Received) (w : Settings) (room page : List ℕ) → sound page ≡ true → settingsAllowed w ≡ true
-    → KeptBy page (answering port m w room page)
+    (port : ℕ) (m : Received) (w : Settings) (room page : List ℕ) → sound page ≡ true → settingsAllowed w ≡ true → KeptBy port m w room page
 
 -- A message is handled by its own bytes: what follows it changes nothing. Proof: Pages `own-bytes`.
 abbrev pub OwnBytes : Type 0

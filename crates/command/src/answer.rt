@@ -1,18 +1,19 @@
 // The answer to a message: the reply, and what becomes of the settings and the page.
 ghost use mathlib.Core.Path.{_≡_};
-ghost use mathlib.Core.Bool.{false};
-ghost use mathlib.Core.List.{[], _++_};
+ghost use mathlib.Core.Bool.{false, _&&_, not};
+ghost use mathlib.Core.List.{_++_};
 ghost use Prim.Native.Nat.{_+_, _-_, _≤_, _<_};
+ghost use lib.Dec.{eqb};
 ghost use lib.ListN.{length, take, drop};
 ghost use Rattle.message.specs.Fields.{fieldsOf};
-ghost use Rattle.message.specs.Message.{messageOf};
-ghost use Rattle.message.specs.Write.{doneWriting, sealing};
-ghost use Rattle.command.specs.Answer.{loadedFrom, savedOn, pageAccess, replyRoom, answerWith, answering};
+ghost use Rattle.message.specs.Write.{sealing};
+ghost use Rattle.command.specs.Answer.{loadedFrom, savedOn, pageAccess, answering};
 ghost use Rattle.command.specs.Command.{valueFor, commandsOf};
 ghost use Rattle.command.specs.Effects.{Fits, functionEffect};
 ghost use Rattle.command.specs.Errors.{fieldsRefused};
-ghost use Rattle.command.specs.Outcome.{receivedOf, replyRow, effectOutcome, fieldOutcome, fieldsOutcome, fieldsIn};
-ghost use Rattle.command.specs.Place.{stateOf, placed};
+ghost use Rattle.command.specs.Outcome.{receivedOf, effectOutcome, fieldOutcome, fieldsOutcome};
+ghost use Rattle.command.specs.Handle.{fieldsIn, commandOutcome};
+ghost use Rattle.command.specs.Place.{stateOf, placed, openedOutcome};
 use crate::command::Command;
 use crate::command::Subject;
 use crate::command::command_at;
@@ -20,9 +21,11 @@ use crate::command::count_of;
 use crate::command::subject_of;
 use crate::errors::field_error;
 use crate::errors::value_for;
+use crate::fields::command_error;
 use crate::fields::echo_of;
-use crate::fields::message_error;
 use crate::fields::payload_end;
+use crate::number::Opened;
+use crate::number::open_message;
 use crate::place::Progress;
 use crate::place::put_row;
 use crate::place::put_value;
@@ -33,7 +36,7 @@ use page::Setting;
 
 // What a message leaves, beside the reply and the page.
 pub struct Answer {
-    // whether a save was accepted
+    // the mark of a save: one was accepted, or a fresh number
     pub saved: bool,
     pub settings: Settings,
 }
@@ -94,13 +97,19 @@ fn obey(c: Command, setting: Setting, p: Progress, room: &mut [u8], page: &mut [
     }
 }
 
-// Answers one field of a message that came on `port`: puts its row behind those before it and, where a save is accepted, writes the
-// page. No rule tells the ports apart yet.
-fn answer_field(port: u8, c: Command, p: Progress, room: &mut [u8], page: &mut [u8]) -> Progress
+// Answers one field: puts its row behind those before it and, where a save is accepted, writes the page. `guarded`: it came on port
+// 0 without a number.
+fn answer_field(
+    guarded: bool,
+    c: Command,
+    p: Progress,
+    room: &mut [u8],
+    page: &mut [u8],
+) -> Progress
     requires { ⌜ p .end + 10 ≤ length (now room) ⌝ }
-    ensures { λ r. ⌜ record { done = r; room = now (room .exit); page = now (page .exit) } ≡ placed p (fieldOutcome (pageAccess port) (stateOf p (now (page .entry))) c) (now (room .entry)) ⌝ }
+    ensures { λ r. ⌜ record { done = r; room = now (room .exit); page = now (page .exit) } ≡ placed p (fieldOutcome pageAccess guarded (stateOf p (now (page .entry))) c) (now (room .entry)) ⌝ }
 {
-    let error = field_error(c);
+    let error = field_error(guarded, c, page);
     let q = put_row(c.code, error, p, room);
     if error != 0 {
         return q;
@@ -112,9 +121,9 @@ fn answer_field(port: u8, c: Command, p: Progress, room: &mut [u8], page: &mut [
     }
 }
 
-// Answers the fields that fill the bytes `from..to` of `held` and then `chunk`, in a message of type `kind`.
+// Answers the fields that fill the bytes `from..to` of `held` and then `chunk`, of a command of type `kind`.
 fn answer_fields(
-    port: u8,
+    guarded: bool,
     held: &[u8],
     chunk: &[u8],
     kind: u8,
@@ -125,13 +134,13 @@ fn answer_fields(
     page: &mut [u8],
 ) -> Progress
     requires { ⌜ (from ≤ to) × (to < 65536) × (to ≤ length (now held) + length (now chunk)) × (fieldsRefused (fieldsOf (drop from (take to (now held ++ now chunk)))) ≡ false) × (start .end + 160 ≤ length (now room)) ⌝ }
-    ensures { λ r. ⌜ record { done = r; room = now (room .exit); page = now (page .exit) } ≡ placed start (fieldsOutcome (pageAccess port) (stateOf start (now (page .entry))) (commandsOf kind (fieldsIn (fieldsOf (drop from (take to (now (held .entry) ++ now (chunk .entry)))))))) (now (room .entry)) ⌝ }
+    ensures { λ r. ⌜ record { done = r; room = now (room .exit); page = now (page .exit) } ≡ placed start (fieldsOutcome pageAccess guarded (stateOf start (now (page .entry))) (commandsOf kind (fieldsIn (fieldsOf (drop from (take to (now (held .entry) ++ now (chunk .entry)))))))) (now (room .entry)) ⌝ }
 {
     let mut at = from;
     let mut p = start;
     while at < to {
         let c = command_at(held, chunk, kind, at);
-        p = answer_field(port, c, p, room, page);
+        p = answer_field(guarded, c, p, room, page);
         at += 2 + count_of(c.size);
     }
     p
@@ -171,47 +180,63 @@ fn sealed(kind: u8, p: Progress, room: &mut [u8]) -> Answer
     }
 }
 
-// Answers a message that is refused as a whole: one row, and nothing changes.
-fn answer_refused(kind: u8, echo: u8, error: u8, w: Settings, room: &mut [u8]) -> Answer
-    requires { ⌜ replyRoom ≤ length (now room) ⌝ }
-    ensures { λ r. ⌜ (r ≡ record { saved = false; settings = w }) × (now (room .exit) ≡ doneWriting (messageOf kind (replyRow echo error [])) (now (room .entry)) .room) ⌝ }
-{
-    let start = Progress {
-        end: 4,
-        saved: false,
-        settings: w,
-    };
-    let p = put_row(echo, error, start, room);
-    sealed(kind, p, room)
-}
-
-// Answers a message whose payload, which ends at `to`, is filled by its fields.
-fn answer_filled(
-    port: u8,
+// Answers the command of type `kind` whose fields are to fill the bytes `from..to` of `held` and then `chunk`.
+fn answer_command(
+    guarded: bool,
     held: &[u8],
     chunk: &[u8],
     kind: u8,
+    from: usize,
     to: usize,
-    w: Settings,
+    start: Progress,
     room: &mut [u8],
     page: &mut [u8],
-) -> Answer
-    requires { ⌜ (4 ≤ to) × (to < 65536) × (to ≤ length (now held) + length (now chunk)) × (fieldsRefused (fieldsOf (drop 4 (take to (now held ++ now chunk)))) ≡ false) × (replyRoom ≤ length (now room)) ⌝ }
-    ensures { λ r. ⌜ record { answer = r; room = now (room .exit); page = now (page .exit) } ≡ answerWith kind (fieldsOutcome (pageAccess port) (record { settings = w; page = now (page .entry) }) (commandsOf kind (fieldsIn (fieldsOf (drop 4 (take to (now (held .entry) ++ now (chunk .entry)))))))) (now (room .entry)) ⌝ }
+) -> Progress
+    requires { ⌜ (from ≤ to) × (to < 65536) × (to ≤ from + (length (now held) + length (now chunk) - from)) × (start .end + 160 ≤ length (now room)) ⌝ }
+    ensures { λ r. ⌜ record { done = r; room = now (room .exit); page = now (page .exit) } ≡ placed start (commandOutcome pageAccess guarded (stateOf start (now (page .entry))) kind (drop from (take to (now (held .entry) ++ now (chunk .entry))))) (now (room .entry)) ⌝ }
 {
-    let start = Progress {
-        end: 4,
-        saved: false,
-        settings: w,
-    };
-    let p = answer_fields(port, held, chunk, kind, 4, to, start, room, page);
-    sealed(kind, p, room)
+    let error = command_error(held, chunk, kind, from, to);
+    if error != 0 {
+        return put_row(echo_of(held, chunk, from, to), error, start, room);
+    }
+    answer_fields(guarded, held, chunk, kind, from, to, start, room, page)
+}
+
+// Whether functions 1, 3, 4 and 5 may need a number: on port 0, where the command has none.
+fn is_guarded(port: u8, numbered: bool) -> bool
+    ensures { λ r. ⌜ r ≡ eqb port 0 && not numbered ⌝ }
+{
+    if port == 0 { !numbered } else { false }
+}
+
+// Answers what a message was opened to, whose payload ends at `to`: one row with its error, or the command in it. That a numbered one
+// is answered here too, and not by a call of its own, lets the compiler make one function of all this.
+fn answer_opened(
+    port: u8,
+    held: &[u8],
+    chunk: &[u8],
+    o: Opened,
+    to: usize,
+    start: Progress,
+    room: &mut [u8],
+    page: &mut [u8],
+) -> Progress
+    requires { ⌜ (o .error ≡ 0 → (o .from ≤ to) × (to ≤ o .from + (length (now held) + length (now chunk) - o .from))) × (to < 65536) × (start .end + 160 ≤ length (now room)) ⌝ }
+    ensures { λ r. ⌜ record { done = r; room = now (room .exit); page = now (page .exit) } ≡ placed start (openedOutcome port o (stateOf start (now (page .entry))) (drop (o .from) (take to (now (held .entry) ++ now (chunk .entry))))) (now (room .entry)) ⌝ }
+{
+    let refusal = o.error;
+    let from = o.from;
+    if refusal != 0 {
+        return put_row(echo_of(held, chunk, from, to), refusal, start, room);
+    }
+    let guarded = is_guarded(port, o.numbered);
+    answer_command(guarded, held, chunk, o.kind, from, to, start, room, page)
 }
 
 // Answers the message at the front of `held` and then `chunk`, which came on `port`. The settings, the room and the page are
-// taken as they are: a feed has tested them. In a room under 166 bytes nothing is done. A message that is damaged or of another
-// type is answered by its type and first payload byte alone, so that noise and data messages are answered without a look at
-// the rest.
+// taken as they are: a feed has tested them. In a room under 166 bytes nothing is done. A message that is damaged, or of a type
+// other than 01, 02 and 7C, is answered by its type and first payload byte alone, so that noise and data messages are answered
+// without a look at the rest.
 pub fn answer_over(
     port: u8,
     held: &[u8],
@@ -231,9 +256,12 @@ pub fn answer_over(
     }
     let kind = byte_over(held, chunk, 2);
     let to = payload_end(held, chunk);
-    let error = message_error(held, chunk, good, kind, to);
-    if error != 0 {
-        return answer_refused(kind, echo_of(held, chunk, to), error, w, room);
-    }
-    answer_filled(port, held, chunk, kind, to, w, room, page)
+    let o = open_message(held, chunk, good, kind, to, page);
+    let start = Progress {
+        end: 4,
+        saved: o.numbered,
+        settings: w,
+    };
+    let p = answer_opened(port, held, chunk, o, to, start, room, page);
+    sealed(kind, p, room)
 }

@@ -1,10 +1,13 @@
-// The error of one field, first that applies; and the types that carry fields.
+// The error of one field, first that applies; and the types of commands.
 ghost use mathlib.Core.Path.{_≡_};
 ghost use mathlib.Core.Bool.{_&&_, _||_, not};
 ghost use lib.Dec.{eqb};
 ghost use Rattle.command.specs.Command.{valueFor};
 ghost use Rattle.command.specs.Effects.{Fits};
-ghost use Rattle.command.specs.Errors.{isUnknown, fieldWrong, isKind, fieldError};
+ghost use Rattle.page.specs.Page.{isThere};
+ghost use Rattle.command.specs.Answer.{numberOn, pageAccess};
+ghost use Rattle.command.specs.Errors.{isUnknown, isFunction, fieldWrong, alters, isKind, fieldError};
+ghost use Rattle.command.specs.Outcome.{needsNumber};
 ghost use Rattle.command.specs.declared.command.Subject.the-variants.{Setting as About};
 use crate::command::Command;
 use crate::command::Subject;
@@ -12,6 +15,7 @@ use crate::command::count_of;
 use crate::command::subject_of;
 use crate::settings::wide;
 use page::Setting;
+use page::Stored;
 
 // The value that a command carries for a setting.
 pub(crate) fn value_for(setting: Setting, c: Command) -> u32
@@ -76,13 +80,63 @@ fn is_unknown(subject: Subject) -> bool
     }
 }
 
+// Whether it is function 1, 3, 4 or 5.
+fn is_altering(function: u8) -> bool
+    ensures { λ r. ⌜ r ≡ isFunction function && not (eqb function 2) ⌝ }
+{
+    if function < 1 {
+        return false;
+    }
+    if function == 2 {
+        return false;
+    }
+    function <= 5
+}
+
+// Whether it is such a function of a setting.
+fn alters(subject: Subject, c: Command) -> bool
+    ensures { λ r. ⌜ r ≡ alters subject c ⌝ }
+{
+    match subject {
+        Subject::Ping => false,
+        Subject::Setting(_) => is_altering(c.function),
+        Subject::Unknown => false,
+    }
+}
+
+// Whether the page keeps a number.
+fn keeps_number(page: &[u8]) -> bool
+    ensures { λ r. ⌜ r ≡ isThere (numberOn (now (page .entry))) ⌝ }
+{
+    match page::last_number(page) {
+        Stored::Absent => false,
+        Stored::Value(_) => true,
+    }
+}
+
+// Whether the field needs a number: it came on port 0 without one (`guarded`), and the page keeps one. The page is looked at last.
+fn number_missing(guarded: bool, subject: Subject, c: Command, page: &[u8]) -> bool
+    ensures { λ r. ⌜ r ≡ needsNumber pageAccess guarded (now (page .entry)) && alters subject c ⌝ }
+{
+    if !guarded {
+        return false;
+    }
+    if !alters(subject, c) {
+        return false;
+    }
+    keeps_number(page)
+}
+
 // The error of one field.
-pub(crate) fn field_error(c: Command) -> u8
-    ensures { λ r. ⌜ r ≡ fieldError c ⌝ }
+pub(crate) fn field_error(guarded: bool, c: Command, page: &[u8]) -> u8
+    ensures { λ r. ⌜ r ≡ fieldError (needsNumber pageAccess guarded (now (page .entry))) c ⌝ }
 {
     let subject = subject_of(c.kind, c.code);
     if is_unknown(subject) {
         return 3;
+    }
+    if number_missing(guarded, subject, c, page) {
+        return 5;
     }
     if field_wrong(subject, c) { 4 } else { 0 }
 }

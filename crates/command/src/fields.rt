@@ -1,4 +1,4 @@
-// The fields of a message that lies in held bytes and then a chunk, and the errors of the message as a whole.
+// The fields of a command that lies in held bytes and then a chunk, and the errors of the command as a whole.
 ghost use mathlib.Core.Path.{_≡_};
 ghost use mathlib.Core.Bool.{not};
 ghost use mathlib.Core.List.{_++_};
@@ -6,7 +6,7 @@ ghost use Prim.Native.Nat.{_+_, _-_, _≤_, _<_};
 ghost use lib.ListN.{length, getD, take, drop};
 ghost use Rattle.message.specs.Fields.{fieldsOf};
 ghost use Rattle.message.specs.Message.{payloadOf};
-ghost use Rattle.command.specs.Errors.{fieldsRefused, messageError};
+ghost use Rattle.command.specs.Errors.{fieldsRefused, commandError};
 use crate::command::count_of;
 use crate::errors::is_kind;
 use message::byte_over;
@@ -24,11 +24,15 @@ pub(crate) fn payload_end(held: &[u8], chunk: &[u8]) -> usize
     if there < 4 { 4 } else { there }
 }
 
-// The first byte of the payload that ends at `to`, or 0 if it is empty: what the reply to a refused message echoes.
-pub(crate) fn echo_of(held: &[u8], chunk: &[u8], to: usize) -> u8
-    ensures { λ r. ⌜ r ≡ getD (drop 4 (take to (now (held .entry) ++ now (chunk .entry)))) 0 0 ⌝ }
+// The first of the bytes `from..to` of `held` and then `chunk`, or 0 if there is none: what the reply to a refused command echoes.
+pub(crate) fn echo_of(held: &[u8], chunk: &[u8], from: usize, to: usize) -> u8
+    ensures { λ r. ⌜ r ≡ getD (drop from (take to (now (held .entry) ++ now (chunk .entry)))) 0 0 ⌝ }
 {
-    if 4 < to { byte_over(held, chunk, 4) } else { 0 }
+    if from < to {
+        byte_over(held, chunk, from)
+    } else {
+        0
+    }
 }
 
 // Whether fields, at most 16, fill the bytes `from..to` of `held` and then `chunk` exactly.
@@ -48,19 +52,20 @@ fn fields_fit(held: &[u8], chunk: &[u8], from: usize, to: usize) -> bool
     at == to
 }
 
-// The error of the message as a whole, whose payload ends at `to`: 0 where each field has its own.
-pub(crate) fn message_error(held: &[u8], chunk: &[u8], good: bool, kind: u8, to: usize) -> u8
-    requires { ⌜ (4 ≤ to) × (to < 260) × (to ≤ 4 + (length (now held) + length (now chunk) - 4)) ⌝ }
-    ensures { λ r. ⌜ r ≡ messageError good kind (drop 4 (take to (now (held .entry) ++ now (chunk .entry)))) ⌝ }
+// The error of a command as a whole, whose fields are to fill the bytes `from..to`: 0 where each field has its own.
+pub(crate) fn command_error(held: &[u8], chunk: &[u8], kind: u8, from: usize, to: usize) -> u8
+    requires { ⌜ (from ≤ to) × (to < 65536) × (to ≤ from + (length (now held) + length (now chunk) - from)) ⌝ }
+    ensures { λ r. ⌜ r ≡ commandError kind (drop from (take to (now (held .entry) ++ now (chunk .entry)))) ⌝ }
 {
-    if !good {
-        return 1;
-    }
     if !is_kind(kind) {
         return 2;
     }
-    if to == 4 {
+    if from == to {
         return 3;
     }
-    if fields_fit(held, chunk, 4, to) { 0 } else { 4 }
+    if fields_fit(held, chunk, from, to) {
+        0
+    } else {
+        4
+    }
 }

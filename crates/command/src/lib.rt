@@ -4,6 +4,7 @@ mod answer;
 mod command;
 mod errors;
 mod fields;
+mod number;
 mod place;
 mod settings;
 

@@ -14,7 +14,7 @@ use page::Setting;
 pub struct Progress {
     // where the next row goes in the room
     pub end: usize,
-    // whether a save was accepted
+    // the mark of a save: one was accepted, or a fresh number
     pub saved: bool,
     pub settings: Settings,
 }

@@ -1,55 +1,100 @@
--- What the command writer writes is obeyed by the board that it is fed to.
-use Prim.Native.Nat.{ℕ}
+-- What the command writers write is obeyed by the board that it is fed to.
+use Prim.Native.Nat.{ℕ, zero, suc, _≤_}
 use native.Mathlib.Omega.{arith}
 use mathlib.Core.Path.{_≡_, refl, ap, sym, _∙_}
-use mathlib.Core.Bool.{true, or-false}
+use mathlib.Core.Bool.{true, false, or-false}
 use mathlib.Core.List.{List, [], _∷_, append-nil}
+use lib.Dec.{eqb}
 use lib.ListN.{length}
 use borrow.Author.Tests.{le-ltb}
 use Rattle.message.specs.Message.{messageOf}
 use Rattle.message.specs.Theorems.{RoundTrip}
 use Rattle.message.proofs.RoundTrips.{written-is-read}
-use Rattle.command.specs.declared.command.Subject.{Subject}
+use Rattle.page.specs.declared.setting.Stored.{Stored}
+use Rattle.page.specs.declared.setting.Stored.the-variants.{Absent, Value}
+use Rattle.page.specs.Page.{isThere}
 use Rattle.command.specs.Errors.{isKind}
-use Rattle.command.specs.Outcome.{Outcome, idle, thenOutcome, receivedOf, rowOutcome, effectOutcome}
-use Rattle.command.specs.Answer.{replyRoom, loadedFrom, savedOn, pageAccess, Answering, answerWith, answering}
-use Rattle.client.specs.Writer.{codeSubject, kindFor, Asked}
-use Rattle.client.specs.Commands.{Obeyed, effectFor, askedOutcome, askedOutcomes, askedFields, OneAsked}
-use Rattle.client.proofs.Obedience.{fields-some, fields-short, written-is-obeyed, subject-same, one-is-written}
+use Rattle.command.specs.Numbers.{numberedKind}
+use Rattle.command.specs.Outcome.{State, Outcome, Received, idle, thenOutcome, receivedOf, needsNumber}
+use Rattle.command.specs.Handle.{marked, spent, messageOutcome}
+use Rattle.command.specs.Answer.{replyRoom, numberOn, pageAccess, Answering, answerWith, answering}
+use Rattle.command.proofs.Numbers.{without-number}
+use Rattle.client.specs.Writer.{codeSubject, kindFor, acceptable, numberedPayload, Asked}
+use Rattle.client.specs.Commands.{Obeyed, ObeyedNumbered, askedOutcome, askedOutcomes, askedFields, OneAsked}
+use Rattle.client.proofs.Obedience.{fields-some, fields-short, written-is-obeyed, numbered-is-obeyed, subject-same, one-is-written}
 use Rattle.stream.proofs.Bools.{differ}
-use Rattle.board.specs.Feed.{feedOn}
-use Rattle.board.specs.Alone.{answeredStep}
+use Rattle.board.specs.declared.board.Board.{Board}
+use Rattle.board.specs.Feed.{feedOn, feedOf}
+use Rattle.board.specs.Alone.{Ready, answeredStep}
 use Rattle.board.proofs.Alone.{fed-alone}
-use Rattle.exchange.specs.Theorems.{stateOf, answeredWith, CallObeys, WriterObeyed}
+use Rattle.exchange.specs.Theorems.{stateOf, answeredWith, CallObeys, writtenOutcome, WriterObeyed, NumberedCallObeys, NumberedWriterObeyed}
 
 not-a5 : (kind : ℕ) → isKind kind ≡ true → kind ≡ 0xA5 → ⊥
 not-a5 kind k e = differ (sym (rw e at k))
 
+-- Where no number is needed, a port handles a message as port 1 does.
+as-second : (port : ℕ) (x : State (List ℕ)) (m : Received) → port ≤ 1 → needsNumber pageAccess (eqb port 0) (x .page) ≡ false
+    → messageOutcome pageAccess port x m ≡ messageOutcome pageAccess 1 x m
+as-second zero x m h e = without-number 0 x m (absent (numberOn (x .page)) e)
+  where
+    absent : (s : Stored) → isThere s ≡ false → s ≡ Absent
+    absent Absent e = refl
+    absent (Value n) e = differ e
+as-second (suc zero) x m h e = refl
+as-second (suc (suc p)) x m h e = absurd (omega arith)
+
+-- A message of at most 255 payload bytes, fed alone and handled to this outcome.
+module _ (port : ℕ) (b : Board) (room page : List ℕ) (r : Ready port b room page) (kind : ℕ) (payload : List ℕ) (not-a5 : kind ≡ 0xA5 → ⊥) (few : length payload ≤ 255) where
+  answered : (o : Outcome (List ℕ)) → messageOutcome pageAccess port (stateOf b page) (receivedOf true (messageOf kind payload)) ≡ o
+      → feedOf port b (messageOf kind payload) room page ≡ answeredWith port b room kind (messageOf kind payload) o
+  unfolding answering receivedOf
+  answered o e =
+      let t : RoundTrip kind payload = written-is-read kind payload few in
+      let a : answering port (receivedOf true (messageOf kind payload)) (b .settings) room page ≡ answerWith kind o room =
+      rw (e, le-ltb (length room) replyRoom (r .large-room), t .kind-back) in
+      fed-alone port b room page kind payload r not-a5 few ∙ ap (λ (a : Answering). feedOn (answeredStep (messageOf kind payload) a) port b) a
+
 pub call-obeys : CallObeys
-unfolding answering receivedOf
-call-obeys port b room page kind asks r h l n =
+call-obeys port b room page kind asks r f h l n =
     let p : List ℕ = askedFields kind asks in
-    let s = fields-short kind asks n in
+    let s : length p ≤ 255 = omega (arith, fields-short kind asks n) in
     let o : Obeyed kind asks = written-is-obeyed kind asks h l n in
-    let t : RoundTrip kind p = written-is-read kind p s in
-    let a : answering port (receivedOf true (messageOf kind p)) (b .settings) room page ≡ answerWith kind (askedOutcomes (pageAccess port) kind (stateOf b page) asks) room =
-    rw (o .outcome (List ℕ) (pageAccess port) (stateOf b page), le-ltb (length room) replyRoom (r .large-room), t .kind-back) in
-    fed-alone port b room page kind p r (not-a5 kind (fields-some kind asks h l .0)) s
-    ∙ ap (λ (a : Answering). feedOn (answeredStep (messageOf kind p) a) port b) a
+    answered port b room page r kind p (not-a5 kind (fields-some kind asks h l .0)) s (askedOutcomes pageAccess kind (stateOf b page) asks)
+    (as-second port (stateOf b page) (receivedOf true (messageOf kind p)) (r .right-port) f ∙ o .outcome (List ℕ) pageAccess (stateOf b page))
+
+pub numbered-call-obeys : NumberedCallObeys
+numbered-call-obeys port b room page number kind asks r s f h l n =
+    let p : List ℕ = numberedPayload number kind (askedFields kind asks) in
+    let q : length p ≤ 255 = omega (arith, fields-short kind asks n) in
+    let o : ObeyedNumbered number kind asks = numbered-is-obeyed number kind asks s h l n in
+    answered port b room page r numberedKind p (λ e. absurd (omega arith)) q (marked (askedOutcomes pageAccess kind (spent pageAccess (stateOf b page) number) asks))
+    (o .outcome (List ℕ) pageAccess port (stateOf b page) f)
 
 -- One after nothing is that one.
 then-idle : {P : Type 0} (o : Outcome P) → thenOutcome o (idle (o .next)) ≡ o
 then-idle o = rw (append-nil (o .rows), or-false (o .saved))
 
+-- What is asked for in one field.
+one-outcome : (x : State (List ℕ)) (code function value : ℕ) → acceptable (codeSubject code) function value ≡ true
+    → askedOutcomes pageAccess (kindFor (codeSubject code)) x (record { code = code; function = function; value = value } ∷ []) ≡ writtenOutcome x code function value
+one-outcome x code function value ok =
+    let e = subject-same code (codeSubject code) function value refl ok in
+    then-idle (askedOutcome pageAccess (kindFor (codeSubject code)) x (record { code = code; function = function; value = value })) ∙ rw e
+
 pub writer-obeyed : WriterObeyed
-writer-obeyed port b room page code function value r ok =
-    let s : Subject = codeSubject code in
-    let k : ℕ = kindFor s in
+writer-obeyed port b room page code function value r f ok =
+    let k : ℕ = kindFor (codeSubject code) in
     let a : Asked = record { code = code; function = function; value = value } in
     let w : OneAsked code function value = one-is-written code function value ok in
-    let e = subject-same code s function value refl ok in
-    let c = call-obeys port b room page k (a ∷ []) r (w .right) (omega arith) (omega arith) in
-    let o : askedOutcomes (pageAccess port) k (stateOf b page) (a ∷ [])
-    ≡ rowOutcome code 0 (effectOutcome savedOn (effectFor s (loadedFrom page) (b .settings) function value) (stateOf b page)) =
-    then-idle (askedOutcome (pageAccess port) k (stateOf b page) a) ∙ rw e in
-    rw (w .written) (c ∙ ap (answeredWith port b room k (messageOf k (askedFields k (a ∷ [])))) o)
+    let c = call-obeys port b room page k (a ∷ []) r f (w .right) (omega arith) (omega arith) in
+    rw (w .written) (c ∙ ap (answeredWith port b room k (messageOf k (askedFields k (a ∷ [])))) (one-outcome (stateOf b page) code function value ok))
+
+pub numbered-writer-obeyed : NumberedWriterObeyed
+numbered-writer-obeyed port b room page number code function value r s f ok =
+    let k : ℕ = kindFor (codeSubject code) in
+    let a : Asked = record { code = code; function = function; value = value } in
+    let w : OneAsked code function value = one-is-written code function value ok in
+    let m : List ℕ = messageOf numberedKind (numberedPayload number k (askedFields k (a ∷ []))) in
+    let c = numbered-call-obeys port b room page number k (a ∷ []) r s f (w .right) (omega arith) (omega arith) in
+    let o = one-outcome (spent pageAccess (stateOf b page) number) code function value ok in
+    rw (w .numbered number) (c ∙ ap (λ (o : Outcome (List ℕ)). answeredWith port b room numberedKind m (marked o)) o)

@@ -4,3 +4,5 @@ pub mod Tracks
 pub mod Demand
 pub mod Accounts
 pub mod Samples
+pub mod Restarts
+pub mod Numbers

@@ -14,6 +14,7 @@ use Rattle.history.specs.Feeds.{Feed, Answer, run}
 use Rattle.history.specs.Reckoning.{Outcome, shortest, handleNext, usedUp, reckonFeed, reckonStep, reckoning}
 use Rattle.history.specs.Program.{passing, heldOn, heldFeed, heldStep, heldProgram}
 use Rattle.history.specs.Ports.{unfed, historyOf}
+use Rattle.history.specs.Restarts.{Act, call, restart, historyFrom, heldHistory, reckonedHistory}
 
 front : List ℕ → Verdict
 front = frontBy (λ u. eqb (getD u 0 0) 5) (λ u. getD u 1 0 + 3) (λ m. eqb (getD m (length m - 1) 0) 1)
@@ -65,3 +66,31 @@ told : historyOf 0 unfed feeds answers
     ≡ record { bytes = 9 ∷ 5 ∷ 3 ∷ 5 ∷ 0 ∷ 1 ∷ 0 ∷ 8 ∷ 5 ∷ []; taken = 9; count = 2; skips = 5; reports = damaged ∷ good ∷ []; last = 1 }
 unfolding feeds damaged good answers historyOf
 told = refl
+
+-- With a restart: what was held of a message is lost, so that its end is nothing; then a whole one. A start adds ten to the count.
+acts : List (Act Feed)
+acts =
+    call (record { port = 0; chunk = 5 ∷ 0 ∷ []; room = 1 })
+    ∷ restart
+    ∷ call (record { port = 0; chunk = 1 ∷ []; room = 1 })
+    ∷ call (record { port = 0; chunk = 5 ∷ 0 ∷ 1 ∷ []; room = 1 })
+    ∷ []
+
+restarted : List Answer
+restarted =
+    record { number = 1; taken = 2; skipped = 0; saved = false; reply = []; reports = [] }
+    ∷ record { number = 1; taken = 1; skipped = 1; saved = false; reply = []; reports = [] }
+    ∷ record { number = 0; taken = 3; skipped = 0; saved = true; reply = good .bytes; reports = good ∷ [] }
+    ∷ []
+
+reckoned-acts : reckonedHistory front count 1 (λ w. w + 10) 0 acts .answers ≡ restarted
+unfolding front count good acts restarted eventsPast shortest handleNext usedUp reckonFeed reckonStep historyFrom reckonedHistory
+reckoned-acts = refl
+
+programmed-acts : heldHistory front count 258 1 (λ w. passing) (λ w. w + 10) 0 acts .answers ≡ restarted
+unfolding front count good acts restarted seek heldOn heldFeed heldStep historyFrom heldHistory
+programmed-acts = refl
+
+kept-acts : heldHistory front count 258 1 (λ w. passing) (λ w. w + 10) 0 acts .final ≡ record { port0 = []; port1 = []; values = 21 }
+unfolding front count acts seek heldOn heldFeed heldStep historyFrom heldHistory
+kept-acts = refl

@@ -1,24 +1,24 @@
 -- What a page holds: a writing is 64 bytes and is read back, and the sound pages are the writings of allowed values.
 use Prim.Native.Nat.{ℕ}
 use native.Mathlib.Omega.{arith}
-use mathlib.Core.Path.{_≡_, refl, ap, sym, _∙_}
-use mathlib.Core.Bool.{Bool, true, false, _&&_, _||_}
+use mathlib.Core.Path.{_≡_, refl, ap, _∙_}
+use mathlib.Core.Bool.{Bool, true, false, _&&_}
 use mathlib.Core.List.{List, [], _∷_}
 use lib.Dec.{eqb}
 use lib.ListN.{length}
-use borrow.Author.Tests.{eqb-true, eq-eqb}
+use borrow.Author.Tests.{eqb-true, eq-eqb, ltb-true, lt-ltb}
 use Rattle.word.specs.Word.{number}
+use Rattle.word.proofs.Numbers.{word-back}
 use Rattle.page.specs.declared.setting.Setting.{Setting}
 use Rattle.page.specs.declared.setting.Setting.the-variants.{Baud, Accelerometer, Gyroscope}
 use Rattle.page.specs.declared.setting.Stored.{Stored}
 use Rattle.page.specs.declared.setting.Stored.the-variants.{Absent, Value}
 use Rattle.page.specs.declared.setting.Values.{Values}
-use Rattle.page.specs.Settings.{codeOf, someOf, allowedValues, allowed, valueBytes, factoryValue}
-use Rattle.page.specs.Page.{storedIn, withValue, storedAllowed, allAllowed, pageSize, writing, factoryPage}
-use Rattle.page.specs.Lookup.{entryFrom, entryOf, partOf, bodyOf, valuesIn}
-use Rattle.page.specs.Sound.{same, valuesFrom, choices, sound, pageNumber, savedPage}
+use Rattle.page.specs.Settings.{codeOf, someOf, allowedValues, allowed, pageValues, pageAllowed, valueBytes, factoryValue, Key, valueOf, lastNumber, keyBytes, keyAllowed}
+use Rattle.page.specs.Page.{storedIn, withKey, storedAllowed, allAllowed, itemsOf, pageSize, writing, factoryPage}
+use Rattle.page.specs.Lookup.{entryFrom, entryOf, partOf, bodyOf, heldUnder, valuesIn}
+use Rattle.page.specs.Sound.{same, sound, pageNumber, putPage}
 use Rattle.page.specs.Theorems
-use Rattle.page.proofs.Settings.{or-true}
 
 -- ---- both of two tests
 
@@ -26,54 +26,6 @@ pub both : (a b : Bool) → a && b ≡ true → (a ≡ true) × (b ≡ true)
 both true true e = (refl, refl)
 both true false e = let z : _≡_ {A = ℕ} 0 1 = cc in absurd (omega arith)
 both false b e = let z : _≡_ {A = ℕ} 0 1 = cc in absurd (omega arith)
-
--- ---- an element of which a test holds
-
-pub record Some {A : Type 0} (p : A → Bool) (Good : A → Type 0) : Type 0 where
-  pub one : A
-  pub good : Good one
-  pub holds : p one ≡ true
-
--- ---- allowed values
-
-value-some : (p : Stored → Bool) (xs : List ℕ) (x : ℕ) → someOf (eqb x) xs ≡ true → p (Value x) ≡ true → someOf p (valuesFrom xs) ≡ true
-value-some p [] x e h = let z : _≡_ {A = ℕ} 0 1 = cc in absurd (omega arith)
-value-some p (k ∷ xs) x e h = go (eqb x k) refl (value-some p xs x)
-  where
-    go : (b : Bool) → eqb x k ≡ b → (someOf (eqb x) xs ≡ true → p (Value x) ≡ true → someOf p (valuesFrom xs) ≡ true)
-        → p (Value k) || someOf p (valuesFrom xs) ≡ true
-    go true q ih = let i : x ≡ k = eqb-true x k q in rw (← i, h)
-    go false q ih = let i : someOf (eqb x) xs ≡ true = rw q at e in rw (ih i h, or-true (p (Value k)))
-
-choice-some : (p : Stored → Bool) (s : Setting) (b : Stored) → storedAllowed s b ≡ true → p b ≡ true → someOf p (choices s) ≡ true
-unfolding allowed
-choice-some p s Absent e h = rw h
-choice-some p s (Value x) e h = go (p Absent)
-  where
-    go : (b : Bool) → b || someOf p (valuesFrom (allowedValues s)) ≡ true
-    go true = refl
-    go false = value-some p (allowedValues s) x e h
-
-some-value : (p : Stored → Bool) (xs : List ℕ) → someOf p (valuesFrom xs) ≡ true → Some (λ x. p (Value x)) (λ x. someOf (eqb x) xs ≡ true)
-some-value p [] e = let z : _≡_ {A = ℕ} 0 1 = cc in absurd (omega arith)
-some-value p (k ∷ xs) e = go (p (Value k)) refl (some-value p xs)
-  where
-    go : (b : Bool) → p (Value k) ≡ b → (someOf p (valuesFrom xs) ≡ true → Some (λ x. p (Value x)) (λ x. someOf (eqb x) xs ≡ true))
-        → Some (λ x. p (Value x)) (λ x. someOf (eqb x) (k ∷ xs) ≡ true)
-    go true q ih = record { one = k; good = rw (eq-eqb k k refl); holds = q }
-    go false q ih =
-        let s = ih (rw q at e) in
-        record { one = s .one; good = rw (s .good) (or-true (eqb (s .one) k)); holds = s .holds }
-
-some-choice : (p : Stored → Bool) (s : Setting) → someOf p (choices s) ≡ true → Some p (λ b. storedAllowed s b ≡ true)
-unfolding allowed
-some-choice p s e = go (p Absent) refl
-  where
-    go : (b : Bool) → p Absent ≡ b → Some p (λ b. storedAllowed s b ≡ true)
-    go true q = record { one = Absent; good = refl; holds = q }
-    go false q =
-        let v = some-value p (allowedValues s) (rw q at e) in
-        record { one = Value (v .one); good = v .good; holds = v .holds }
 
 -- ---- the same bytes
 
@@ -94,9 +46,9 @@ same-eq (x ∷ xs) (y ∷ ys) e =
 -- ---- what is computed of a writing, by which values are there
 
 -- A value as it is read back from its bytes.
-abbrev readBack : Setting → Stored → Stored
-readBack s Absent = Absent
-readBack s (Value x) = Value (number (valueBytes s x))
+abbrev readBack : Key → Stored → Stored
+readBack k Absent = Absent
+readBack k (Value x) = Value (number (keyBytes k x))
 
 -- What is loaded of a setting.
 abbrev loaded : Values → Setting → ℕ
@@ -108,24 +60,37 @@ Body v s = bodyOf (writing v) factoryPage (codeOf s) ≡ valueBytes s (loaded v 
 record Computed (v : Values) : Type 0 where
   pub size : length (writing v) ≡ pageSize
   pub back : valuesIn (writing v)
-      ≡ record { baud = readBack Baud (v .baud); accelerometer = readBack Accelerometer (v .accelerometer); gyroscope = readBack Gyroscope (v .gyroscope) }
+      ≡ record {
+        baud = readBack (valueOf Baud) (v .baud);
+        accelerometer = readBack (valueOf Accelerometer) (v .accelerometer);
+        gyroscope = readBack (valueOf Gyroscope) (v .gyroscope);
+        number = readBack lastNumber (v .number);
+      }
   pub baud : Body v Baud
   pub accelerometer : Body v Accelerometer
   pub gyroscope : Body v Gyroscope
 
-computed : (b a g : Stored) → Computed (record { baud = b; accelerometer = a; gyroscope = g })
-unfolding writing valuesIn factoryPage bodyOf entryOf entryFrom partOf
-computed Absent Absent Absent = record { size = refl; back = refl; baud = refl; accelerometer = refl; gyroscope = refl }
-computed Absent Absent (Value g) = record { size = refl; back = refl; baud = refl; accelerometer = refl; gyroscope = refl }
-computed Absent (Value a) Absent = record { size = refl; back = refl; baud = refl; accelerometer = refl; gyroscope = refl }
-computed Absent (Value a) (Value g) = record { size = refl; back = refl; baud = refl; accelerometer = refl; gyroscope = refl }
-computed (Value b) Absent Absent = record { size = refl; back = refl; baud = refl; accelerometer = refl; gyroscope = refl }
-computed (Value b) Absent (Value g) = record { size = refl; back = refl; baud = refl; accelerometer = refl; gyroscope = refl }
-computed (Value b) (Value a) Absent = record { size = refl; back = refl; baud = refl; accelerometer = refl; gyroscope = refl }
-computed (Value b) (Value a) (Value g) = record { size = refl; back = refl; baud = refl; accelerometer = refl; gyroscope = refl }
+computed : (b a g n : Stored) → Computed (record { baud = b; accelerometer = a; gyroscope = g; number = n })
+unfolding writing valuesIn heldUnder factoryPage bodyOf entryOf entryFrom partOf
+computed Absent Absent Absent Absent = record { size = refl; back = refl; baud = refl; accelerometer = refl; gyroscope = refl }
+computed Absent Absent Absent (Value n) = record { size = refl; back = refl; baud = refl; accelerometer = refl; gyroscope = refl }
+computed Absent Absent (Value g) Absent = record { size = refl; back = refl; baud = refl; accelerometer = refl; gyroscope = refl }
+computed Absent Absent (Value g) (Value n) = record { size = refl; back = refl; baud = refl; accelerometer = refl; gyroscope = refl }
+computed Absent (Value a) Absent Absent = record { size = refl; back = refl; baud = refl; accelerometer = refl; gyroscope = refl }
+computed Absent (Value a) Absent (Value n) = record { size = refl; back = refl; baud = refl; accelerometer = refl; gyroscope = refl }
+computed Absent (Value a) (Value g) Absent = record { size = refl; back = refl; baud = refl; accelerometer = refl; gyroscope = refl }
+computed Absent (Value a) (Value g) (Value n) = record { size = refl; back = refl; baud = refl; accelerometer = refl; gyroscope = refl }
+computed (Value b) Absent Absent Absent = record { size = refl; back = refl; baud = refl; accelerometer = refl; gyroscope = refl }
+computed (Value b) Absent Absent (Value n) = record { size = refl; back = refl; baud = refl; accelerometer = refl; gyroscope = refl }
+computed (Value b) Absent (Value g) Absent = record { size = refl; back = refl; baud = refl; accelerometer = refl; gyroscope = refl }
+computed (Value b) Absent (Value g) (Value n) = record { size = refl; back = refl; baud = refl; accelerometer = refl; gyroscope = refl }
+computed (Value b) (Value a) Absent Absent = record { size = refl; back = refl; baud = refl; accelerometer = refl; gyroscope = refl }
+computed (Value b) (Value a) Absent (Value n) = record { size = refl; back = refl; baud = refl; accelerometer = refl; gyroscope = refl }
+computed (Value b) (Value a) (Value g) Absent = record { size = refl; back = refl; baud = refl; accelerometer = refl; gyroscope = refl }
+computed (Value b) (Value a) (Value g) (Value n) = record { size = refl; back = refl; baud = refl; accelerometer = refl; gyroscope = refl }
 
 computed-of : (v : Values) → Computed v
-computed-of v = computed (v .baud) (v .accelerometer) (v .gyroscope)
+computed-of v = computed (v .baud) (v .accelerometer) (v .gyroscope) (v .number)
 
 pub writing-size : Theorems.WritingSize
 writing-size v = computed-of v .size
@@ -144,109 +109,149 @@ each p (k ∷ xs) x h e = go (eqb x k) refl (each p xs x (both (p k) (eachOf p x
     go true q ih = let i : x ≡ k = eqb-true x k q in rw i (both (p k) (eachOf p xs) h .0)
     go false q ih = ih (rw q at e)
 
+-- A page can hold every value that can be in use.
+in-use-each : (s : Setting) → eachOf (pageAllowed s) (allowedValues s) ≡ true
+unfolding pageAllowed
+in-use-each Baud = refl
+in-use-each Accelerometer = refl
+in-use-each Gyroscope = refl
+
+pub in-use-kept : (s : Setting) (x : ℕ) → allowed s x ≡ true → pageAllowed s x ≡ true
+unfolding allowed
+in-use-kept s x e = each (pageAllowed s) (allowedValues s) x (in-use-each s) e
+
+-- Every value that a page can hold can be in use.
+kept-each : (s : Setting) → eachOf (allowed s) (pageValues s) ≡ true
+unfolding allowed
+kept-each Baud = refl
+kept-each Accelerometer = refl
+kept-each Gyroscope = refl
+
+pub kept-in-use : (s : Setting) (x : ℕ) → pageAllowed s x ≡ true → allowed s x ≡ true
+unfolding pageAllowed
+kept-in-use s x e = each (allowed s) (pageValues s) x (kept-each s) e
+
 -- An allowed value is the number of its bytes.
 abbrev isNumber : Setting → ℕ → Bool
 isNumber s x = eqb (number (valueBytes s x)) x
 
-are-numbers : (s : Setting) → eachOf (isNumber s) (allowedValues s) ≡ true
+are-numbers : (s : Setting) → eachOf (isNumber s) (pageValues s) ≡ true
 are-numbers Baud = refl
 are-numbers Accelerometer = refl
 are-numbers Gyroscope = refl
 
-pub value-back : (s : Setting) (x : ℕ) → allowed s x ≡ true → number (valueBytes s x) ≡ x
-unfolding allowed
-value-back s x e = eqb-true (number (valueBytes s x)) x (each (isNumber s) (allowedValues s) x (are-numbers s) e)
+pub key-back : (k : Key) (x : ℕ) → keyAllowed k x ≡ true → number (keyBytes k x) ≡ x
+unfolding pageAllowed
+key-back (valueOf s) x e = eqb-true (number (valueBytes s x)) x (each (isNumber s) (pageValues s) x (are-numbers s) e)
+key-back lastNumber x e = word-back x (ltb-true x 4294967296 e)
 
-stored-back : (s : Setting) (b : Stored) → storedAllowed s b ≡ true → readBack s b ≡ b
-stored-back s Absent e = refl
-stored-back s (Value x) e = ap Value (value-back s x e)
+pub value-back : (s : Setting) (x : ℕ) → allowed s x ≡ true → number (valueBytes s x) ≡ x
+value-back s x e = key-back (valueOf s) x (in-use-kept s x e)
+
+stored-back : (k : Key) (b : Stored) → storedAllowed k b ≡ true → readBack k b ≡ b
+stored-back k Absent e = refl
+stored-back k (Value x) e = ap Value (key-back k x e)
 
 -- ---- all values allowed
 
 pub record Allowed (v : Values) : Type 0 where
-  pub baud : storedAllowed Baud (v .baud) ≡ true
-  pub accelerometer : storedAllowed Accelerometer (v .accelerometer) ≡ true
-  pub gyroscope : storedAllowed Gyroscope (v .gyroscope) ≡ true
+  pub baud : storedAllowed (valueOf Baud) (v .baud) ≡ true
+  pub accelerometer : storedAllowed (valueOf Accelerometer) (v .accelerometer) ≡ true
+  pub gyroscope : storedAllowed (valueOf Gyroscope) (v .gyroscope) ≡ true
+  pub number : storedAllowed lastNumber (v .number) ≡ true
 
 pub allowed-each : (v : Values) → allAllowed v ≡ true → Allowed v
 unfolding allAllowed
 allowed-each v e =
-    let p = both (storedAllowed Baud (v .baud) && storedAllowed Accelerometer (v .accelerometer)) (storedAllowed Gyroscope (v .gyroscope)) e in
-    let q = both (storedAllowed Baud (v .baud)) (storedAllowed Accelerometer (v .accelerometer)) (p .0) in
-    record { baud = q .0; accelerometer = q .1; gyroscope = p .1 }
+    let b = storedAllowed (valueOf Baud) (v .baud) in
+    let a = storedAllowed (valueOf Accelerometer) (v .accelerometer) in
+    let g = storedAllowed (valueOf Gyroscope) (v .gyroscope) in
+    let p = both (b && a && g) (storedAllowed lastNumber (v .number)) e in
+    let q = both (b && a) g (p .0) in
+    let r = both b a (q .0) in
+    record { baud = r .0; accelerometer = r .1; gyroscope = q .1; number = p .1 }
 
 pub each-allowed : (v : Values) → Allowed v → allAllowed v ≡ true
 unfolding allAllowed
-each-allowed v h = rw (h .baud, h .accelerometer, h .gyroscope)
+each-allowed v h = rw (h .baud, h .accelerometer, h .gyroscope, h .number)
 
 pub read-back : Theorems.ReadBack
 read-back v e =
     let h = allowed-each v e in
-    let b = stored-back Baud (v .baud) (h .baud) in
-    let a = stored-back Accelerometer (v .accelerometer) (h .accelerometer) in
-    let g = stored-back Gyroscope (v .gyroscope) (h .gyroscope) in
-    computed-of v .back ∙ rw (b, a, g)
+    let b = stored-back (valueOf Baud) (v .baud) (h .baud) in
+    let a = stored-back (valueOf Accelerometer) (v .accelerometer) (h .accelerometer) in
+    let g = stored-back (valueOf Gyroscope) (v .gyroscope) (h .gyroscope) in
+    let n = stored-back lastNumber (v .number) (h .number) in
+    computed-of v .back ∙ rw (b, a, g, n)
+
+-- Whichever values are there.
+pub codes-ascend : Theorems.CodesAscend
+codes-ascend v = go (v .baud) (v .accelerometer) (v .gyroscope) (v .number)
+  where
+    go : (b a g n : Stored) → Theorems.ascending (itemsOf (record { baud = b; accelerometer = a; gyroscope = g; number = n })) ≡ true
+    go Absent Absent Absent Absent = refl
+    go Absent Absent Absent (Value n) = refl
+    go Absent Absent (Value g) Absent = refl
+    go Absent Absent (Value g) (Value n) = refl
+    go Absent (Value a) Absent Absent = refl
+    go Absent (Value a) Absent (Value n) = refl
+    go Absent (Value a) (Value g) Absent = refl
+    go Absent (Value a) (Value g) (Value n) = refl
+    go (Value b) Absent Absent Absent = refl
+    go (Value b) Absent Absent (Value n) = refl
+    go (Value b) Absent (Value g) Absent = refl
+    go (Value b) Absent (Value g) (Value n) = refl
+    go (Value b) (Value a) Absent Absent = refl
+    go (Value b) (Value a) Absent (Value n) = refl
+    go (Value b) (Value a) (Value g) Absent = refl
+    go (Value b) (Value a) (Value g) (Value n) = refl
 
 -- ---- sound pages
 
--- The tests that `sound` makes, with three values chosen, two, and one.
-module _ (page : List ℕ) (b : Stored) where
-  abbrev three : Stored → Stored → Bool
-  three a g = same page (writing (record { baud = b; accelerometer = a; gyroscope = g }))
-
-  abbrev two : Stored → Bool
-  two a = someOf (three a) (choices Gyroscope)
-
-  abbrev one : Bool
-  one = someOf two (choices Accelerometer)
-
 pub writing-sound : Theorems.WritingSound
 unfolding sound
-writing-sound v e =
-    let h = allowed-each v e in
-    let w = writing v in
-    let g = choice-some (three w (v .baud) (v .accelerometer)) Gyroscope (v .gyroscope) (h .gyroscope) (same-refl w) in
-    let a = choice-some (two w (v .baud)) Accelerometer (v .accelerometer) (h .accelerometer) g in
-    choice-some (one w) Baud (v .baud) (h .baud) a
-
-record Written (page : List ℕ) : Type 0 where
-  pub values : Values
-  pub fine : allAllowed values ≡ true
-  pub written : page ≡ writing values
-
-sound-written : (page : List ℕ) → sound page ≡ true → Written page
-unfolding sound
-sound-written page e =
-    let b = some-choice (one page) Baud e in
-    let a = some-choice (two page (b .one)) Accelerometer (b .holds) in
-    let g = some-choice (three page (b .one) (a .one)) Gyroscope (a .holds) in
-    let v : Values = record { baud = b .one; accelerometer = a .one; gyroscope = g .one } in
-    record {
-      values = v;
-      fine = each-allowed v (record { baud = b .good; accelerometer = a .good; gyroscope = g .good });
-      written = same-eq page (writing v) (g .holds);
-    }
+writing-sound v e = rw (read-back v e, e, same-refl (writing v))
 
 pub sound-is-writing : Theorems.SoundIsWriting
+unfolding sound
 sound-is-writing page e =
-    let w = sound-written page e in
-    let q : valuesIn page ≡ w .values = ap valuesIn (w .written) ∙ read-back (w .values) (w .fine) in
-    record { allowed-values = rw q (w .fine); written = w .written ∙ ap writing (sym q) }
+    let b = both (allAllowed (valuesIn page)) (same page (writing (valuesIn page))) e in
+    record { allowed-values = b .0; written = same-eq page (writing (valuesIn page)) (b .1) }
 
--- ---- a save
+pub sound-exactly : Theorems.SoundExactly
+sound-exactly =
+    record {
+      sound-some = λ page e. let w = sound-is-writing page e in record { values = valuesIn page; allowed-values = w .allowed-values; written = w .written };
+      some-sound = λ page w. rw (w .written) (writing-sound (w .values) (w .allowed-values));
+    }
 
-pub with-allowed : (v : Values) (s : Setting) (x : ℕ) → Allowed v → allowed s x ≡ true → Allowed (withValue v s x)
-with-allowed v Baud x h e = record { baud = e; accelerometer = h .accelerometer; gyroscope = h .gyroscope }
-with-allowed v Accelerometer x h e = record { baud = h .baud; accelerometer = e; gyroscope = h .gyroscope }
-with-allowed v Gyroscope x h e = record { baud = h .baud; accelerometer = h .accelerometer; gyroscope = e }
+-- ---- a value put in
+
+pub with-allowed : (v : Values) (k : Key) (x : ℕ) → Allowed v → keyAllowed k x ≡ true → Allowed (withKey v k x)
+with-allowed v (valueOf Baud) x h e = record { baud = e; accelerometer = h .accelerometer; gyroscope = h .gyroscope; number = h .number }
+with-allowed v (valueOf Accelerometer) x h e = record { baud = h .baud; accelerometer = e; gyroscope = h .gyroscope; number = h .number }
+with-allowed v (valueOf Gyroscope) x h e = record { baud = h .baud; accelerometer = h .accelerometer; gyroscope = e; number = h .number }
+with-allowed v lastNumber x h e = record { baud = h .baud; accelerometer = h .accelerometer; gyroscope = h .gyroscope; number = e }
+
+pub put-allowed : (v : Values) (k : Key) (x : ℕ) → allAllowed v ≡ true → keyAllowed k x ≡ true → allAllowed (withKey v k x) ≡ true
+put-allowed v k x a e = each-allowed (withKey v k x) (with-allowed v k x (allowed-each v a) e)
+
+pub put-keeps : Theorems.PutKeeps
+unfolding putPage
+put-keeps page k x e h =
+    let v = withKey (valuesIn page) k x in
+    let f = put-allowed (valuesIn page) k x (sound-is-writing page e .allowed-values) h in
+    record { values = read-back v f; sound-page = writing-sound v f }
 
 pub save-keeps : Theorems.SaveKeeps
-unfolding savedPage
 save-keeps page s x e h =
-    let v = valuesIn page in
-    let w = sound-is-writing page e in
-    let f = each-allowed (withValue v s x) (with-allowed v s x (allowed-each v (w .allowed-values)) h) in
-    record { values = read-back (withValue v s x) f; sound-page = writing-sound (withValue v s x) f }
+    let p = put-keeps page (valueOf s) x e (in-use-kept s x h) in
+    record { values = p .values; sound-page = p .sound-page }
+
+pub number-keeps : Theorems.NumberKeeps
+number-keeps page x e h =
+    let p = put-keeps page lastNumber x e (lt-ltb x 4294967296 h) in
+    record { values = p .values; sound-page = p .sound-page }
 
 -- ---- the lookup on a sound page
 
@@ -261,14 +266,14 @@ factory-allowed Baud = refl
 factory-allowed Accelerometer = refl
 factory-allowed Gyroscope = refl
 
-stored-in-allowed : (v : Values) (s : Setting) → Allowed v → storedAllowed s (storedIn v s) ≡ true
+stored-in-allowed : (v : Values) (s : Setting) → Allowed v → storedAllowed (valueOf s) (storedIn v s) ≡ true
 stored-in-allowed v Baud h = h .baud
 stored-in-allowed v Accelerometer h = h .accelerometer
 stored-in-allowed v Gyroscope h = h .gyroscope
 
-value-or-allowed : (s : Setting) (b : Stored) → storedAllowed s b ≡ true → allowed s (Theorems.valueOr b (factoryValue s)) ≡ true
+value-or-allowed : (s : Setting) (b : Stored) → storedAllowed (valueOf s) b ≡ true → allowed s (Theorems.valueOr b (factoryValue s)) ≡ true
 value-or-allowed s Absent e = factory-allowed s
-value-or-allowed s (Value x) e = e
+value-or-allowed s (Value x) e = kept-in-use s x e
 
 pub loads-stored : Theorems.LoadsStored
 loads-stored page s e =
@@ -283,7 +288,7 @@ pub writing-is-sound : Theorems.WritingIsSound
 writing-is-sound page i = rw (i .written) (writing-sound (valuesIn page) (i .allowed-values))
 
 pub blank-is-writing : Theorems.BlankIsWriting
-unfolding writing valuesIn entryOf
+unfolding writing valuesIn heldUnder entryOf
 blank-is-writing = record { written = refl; read = refl }
 
 -- A sound page passes the tests of its number.

@@ -1,13 +1,12 @@
--- How store.rt fills a page, entry by entry. That it ends with the writing of the values is proved in proofs/Drafts.antt.
+-- Internal: how store.rt fills a page, entry by entry. That it ends with the writing of the values is proved in proofs/Drafts.antt.
 use mathlib.Core.List.{List, [], _∷_}
 use Prim.Native.Nat.{ℕ, zero, suc, _+_, _*_}
 use lib.ListN.{length, set}
 use lib.Seq.{sets}
-use Rattle.page.specs.declared.setting.Setting.{Setting}
 use Rattle.page.specs.declared.setting.Stored.{Stored}
 use Rattle.page.specs.declared.setting.Stored.the-variants.{Absent, Value}
 use Rattle.page.specs.declared.store.Places.{Places}
-use Rattle.page.specs.Settings.{codeOf, valueBytes}
+use Rattle.page.specs.Settings.{Key, keyCode, keyBytes}
 
 -- 1 for a value that is there.
 abbrev pub presence : Stored → ℕ
@@ -35,6 +34,6 @@ withBody d code bs =
     }
 
 -- One entry more for a value that is there.
-abbrev pub withStored : Draft → Setting → Stored → Draft
-withStored d s Absent = d
-withStored d s (Value x) = withBody d (codeOf s) (valueBytes s x)
+abbrev pub withStored : Draft → Key → Stored → Draft
+withStored d k Absent = d
+withStored d k (Value x) = withBody d (keyCode k) (keyBytes k x)

@@ -1,5 +1,6 @@
--- Document 01, "The start-up page": the values that a page keeps, and the writing of them.
-use mathlib.Core.Bool.{Bool, true, _&&_}
+-- Document 01, "The start-up page", with entry 70 of document 02, request 03: the values that a page keeps, and the writing of
+-- them.
+use mathlib.Core.Bool.{Bool, true, false, _&&_}
 use mathlib.Core.List.{List, [], _∷_, _++_}
 use Prim.Native.Nat.{ℕ, _+_, _-_, _*_}
 use lib.ListN.{length, replicate}
@@ -8,9 +9,13 @@ use Rattle.page.specs.declared.setting.Setting.the-variants.{Baud, Accel
 use Rattle.page.specs.declared.setting.Stored.{Stored}
 use Rattle.page.specs.declared.setting.Stored.the-variants.{Absent, Value}
 use Rattle.page.specs.declared.setting.Values.{Values}
-use Rattle.page.specs.Settings.{codeOf, allowed, valueBytes, factoryValue}
+use Rattle.page.specs.Settings.{factoryValue, Key, valueOf, lastNumber, keyCode, keyBytes, keyAllowed}
 
 -- ---- values under codes
+
+abbrev pub isThere : Stored → Bool
+isThere Absent = false
+isThere (Value x) = true
 
 abbrev pub storedIn : Values → Setting → Stored
 storedIn v Baud = v .baud
@@ -19,23 +24,42 @@ storedIn v Gyroscope = v .gyroscope
 
 -- The values with one put in, the others kept.
 abbrev pub withValue : Values → Setting → ℕ → Values
-withValue v Baud x = record { baud = Value x; accelerometer = v .accelerometer; gyroscope = v .gyroscope }
-withValue v Accelerometer x = record { baud = v .baud; accelerometer = Value x; gyroscope = v .gyroscope }
-withValue v Gyroscope x = record { baud = v .baud; accelerometer = v .accelerometer; gyroscope = Value x }
+withValue v Baud x = record { baud = Value x; accelerometer = v .accelerometer; gyroscope = v .gyroscope; number = v .number }
+withValue v Accelerometer x = record { baud = v .baud; accelerometer = Value x; gyroscope = v .gyroscope; number = v .number }
+withValue v Gyroscope x = record { baud = v .baud; accelerometer = v .accelerometer; gyroscope = Value x; number = v .number }
+
+-- The values with a number put in, the others kept.
+abbrev pub withNumber : Values → ℕ → Values
+withNumber v x = record { baud = v .baud; accelerometer = v .accelerometer; gyroscope = v .gyroscope; number = Value x }
+
+abbrev pub withKey : Values → Key → ℕ → Values
+withKey v (valueOf s) x = withValue v s x
+withKey v lastNumber x = withNumber v x
 
 abbrev pub noValues : Values
-noValues = record { baud = Absent; accelerometer = Absent; gyroscope = Absent }
+noValues = record { baud = Absent; accelerometer = Absent; gyroscope = Absent; number = Absent }
 
+-- There is no factory number.
 abbrev pub factoryValues : Values
-factoryValues = record { baud = Value (factoryValue Baud); accelerometer = Value (factoryValue Accelerometer); gyroscope = Value (factoryValue Gyroscope) }
+factoryValues =
+    record {
+      baud = Value (factoryValue Baud);
+      accelerometer = Value (factoryValue Accelerometer);
+      gyroscope = Value (factoryValue Gyroscope);
+      number = Absent;
+    }
 
-abbrev pub storedAllowed : Setting → Stored → Bool
-storedAllowed s Absent = true
-storedAllowed s (Value x) = allowed s x
+abbrev pub storedAllowed : Key → Stored → Bool
+storedAllowed k Absent = true
+storedAllowed k (Value x) = keyAllowed k x
 
--- Each value that is there is allowed.
+-- Each value that is there is allowed on the page.
 unfoldable pub allAllowed : Values → Bool
-allAllowed v = storedAllowed Baud (v .baud) && storedAllowed Accelerometer (v .accelerometer) && storedAllowed Gyroscope (v .gyroscope)
+allAllowed v =
+    storedAllowed (valueOf Baud) (v .baud)
+    && storedAllowed (valueOf Accelerometer) (v .accelerometer)
+    && storedAllowed (valueOf Gyroscope) (v .gyroscope)
+    && storedAllowed lastNumber (v .number)
 
 -- ---- the writing of values
 
@@ -43,13 +67,17 @@ pub record Item : Type 0 where
   pub code : ℕ
   pub content : List ℕ
 
-abbrev pub itemOn : Setting → Stored → List Item → List Item
-itemOn s Absent items = items
-itemOn s (Value x) items = record { code = codeOf s; content = valueBytes s x } ∷ items
+abbrev pub itemOn : Key → Stored → List Item → List Item
+itemOn k Absent items = items
+itemOn k (Value x) items = record { code = keyCode k; content = keyBytes k x } ∷ items
 
 -- The entries of a page with their bodies: codes ascend.
 abbrev pub itemsOf : Values → List Item
-itemsOf v = itemOn Baud (v .baud) (itemOn Accelerometer (v .accelerometer) (itemOn Gyroscope (v .gyroscope) []))
+itemsOf v =
+    itemOn (valueOf Baud) (v .baud)
+    (itemOn (valueOf Accelerometer) (v .accelerometer)
+    (itemOn (valueOf Gyroscope) (v .gyroscope)
+    (itemOn lastNumber (v .number) [])))
 
 -- For each entry code, offset, length, where the bodies start at an offset and stand close together.
 abbrev pub contentsFrom : ℕ → List Item → List ℕ

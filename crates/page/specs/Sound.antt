@@ -5,12 +5,9 @@ use Prim.Native.Nat.{ℕ}
 use lib.Dec.{eqb}
 use lib.ListN.{length}
 use Rattle.page.specs.declared.setting.Setting.{Setting}
-use Rattle.page.specs.declared.setting.Setting.the-variants.{Baud, Accelerometer, Gyroscope}
-use Rattle.page.specs.declared.setting.Stored.{Stored}
-use Rattle.page.specs.declared.setting.Stored.the-variants.{Absent, Value}
 use Rattle.page.specs.declared.setting.Values.{Values}
-use Rattle.page.specs.Settings.{someOf, allowedValues}
-use Rattle.page.specs.Page.{writing, pageSize, allAllowed, withValue}
+use Rattle.page.specs.Settings.{Key, valueOf, lastNumber}
+use Rattle.page.specs.Page.{writing, pageSize, allAllowed, withKey}
 use Rattle.page.specs.Lookup.{valuesIn}
 
 -- Are two rows of bytes the same?
@@ -20,19 +17,10 @@ same [] (y ∷ ys) = false
 same (x ∷ xs) [] = false
 same (x ∷ xs) (y ∷ ys) = eqb x y && same xs ys
 
-abbrev pub valuesFrom : List ℕ → List Stored
-valuesFrom [] = []
-valuesFrom (x ∷ xs) = Value x ∷ valuesFrom xs
-
--- What a page can hold of a setting: nothing, or an allowed value.
-abbrev pub choices : Setting → List Stored
-choices s = Absent ∷ valuesFrom (allowedValues s)
-
--- Sound: blank, or exactly the writing of some allowed values. (Blank is the writing of no values.)
+-- Sound: blank, or exactly the writing of some allowed values. (Blank is the writing of no values.) Some values are
+-- those read from the page (`SoundExactly`), and there are no others, since a writing reads back (`ReadBack`): so these are tried.
 unfoldable pub sound : List ℕ → Bool
-sound page =
-    someOf (λ b. someOf (λ a. someOf (λ g. same page (writing (record { baud = b; accelerometer = a; gyroscope = g })))
-    (choices Gyroscope)) (choices Accelerometer)) (choices Baud)
+sound page = allAllowed (valuesIn page) && same page (writing (valuesIn page))
 
 abbrev pub refuse : Bool → ℕ → ℕ → ℕ
 refuse true n next = n
@@ -60,6 +48,13 @@ pageWriting v page =
     (refuseWriting (not (allAllowed v)) 20 page
     (record { number = 0; page = writing v }))
 
--- A save puts its value in, keeps the other entries, and writes the page anew.
-unfoldable pub savedPage : List ℕ → Setting → ℕ → List ℕ
-savedPage page s x = writing (withValue (valuesIn page) s x)
+-- The page with a value put in: it keeps the other entries, and is written anew.
+unfoldable pub putPage : List ℕ → Key → ℕ → List ℕ
+putPage page k x = writing (withKey (valuesIn page) k x)
+
+-- A save puts the value of a setting in, a fresh number the number.
+abbrev pub savedPage : List ℕ → Setting → ℕ → List ℕ
+savedPage page s x = putPage page (valueOf s) x
+
+abbrev pub numberedPage : List ℕ → ℕ → List ℕ
+numberedPage page n = putPage page lastNumber n

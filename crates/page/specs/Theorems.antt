@@ -1,28 +1,40 @@
--- What is proved of the page's definitions, beyond the contracts of the code. The proofs stand in proofs/.
+-- What is proved of the page's definitions, beyond the contracts of the code. Each statement names its proof, a term of that type in a
+-- file of proofs/.
 use mathlib.Core.Path.{_≡_}
-use mathlib.Core.Bool.{true}
-use mathlib.Core.List.{List}
-use Prim.Native.Nat.{ℕ}
+use mathlib.Core.Bool.{Bool, true, _&&_}
+use mathlib.Core.List.{List, [], _∷_}
+use Prim.Native.Nat.{ℕ, _<_}
+use lib.Dec.{ltb}
 use lib.ListN.{length}
 use Rattle.word.specs.Word.{number}
 use Rattle.page.specs.declared.setting.Setting.{Setting}
 use Rattle.page.specs.declared.setting.Stored.{Stored}
 use Rattle.page.specs.declared.setting.Stored.the-variants.{Absent, Value}
 use Rattle.page.specs.declared.setting.Values.{Values}
-use Rattle.page.specs.Settings.{codeOf, allowed, valueBytes, factoryValue}
-use Rattle.page.specs.Page.{storedIn, withValue, noValues, allAllowed, writing, pageSize, blankPage, factoryPage}
+use Rattle.page.specs.Settings.{codeOf, allowed, valueBytes, factoryValue, Key, keyAllowed}
+use Rattle.page.specs.Page.{storedIn, withValue, withNumber, withKey, noValues, allAllowed, Item, itemsOf, writing, pageSize, blankPage, factoryPage}
 use Rattle.page.specs.Lookup.{bodyOf, valuesIn}
-use Rattle.page.specs.Sound.{sound, savedPage}
+use Rattle.page.specs.Sound.{sound, putPage, savedPage, numberedPage}
 
--- Every writing is 64 bytes.
+-- Every writing is 64 bytes. Proof: Pages `writing-size`.
 abbrev pub WritingSize : Type 0
 WritingSize = (v : Values) → length (writing v) ≡ pageSize
 
--- Reading a writing gives the values back.
+-- Codes ascend: in every writing each entry's code is smaller than the next one's. Proof: Pages `codes-ascend`.
+abbrev pub ascending : List Item → Bool
+ascending [] = true
+ascending (e ∷ []) = true
+ascending (e ∷ f ∷ es) = ltb (e .code) (f .code) && ascending (f ∷ es)
+
+abbrev pub CodesAscend : Type 0
+CodesAscend = (v : Values) → ascending (itemsOf v) ≡ true
+
+-- Reading a writing gives the values back. Proof: Pages `read-back`.
 abbrev pub ReadBack : Type 0
 ReadBack = (v : Values) → allAllowed v ≡ true → valuesIn (writing v) ≡ v
 
--- The writing of allowed values is sound, and a sound page is the writing of the allowed values that are read from it.
+-- The writing of allowed values is sound, and a sound page is the writing of the allowed values that are read from it. Proofs: Pages
+-- `writing-sound`, `sound-is-writing`, `writing-is-sound`.
 abbrev pub WritingSound : Type 0
 WritingSound = (v : Values) → allAllowed v ≡ true → sound (writing v) ≡ true
 
@@ -36,12 +48,31 @@ SoundIsWriting = (page : List ℕ) → sound page ≡ true → IsWriting page
 abbrev pub WritingIsSound : Type 0
 WritingIsSound = (page : List ℕ) → IsWriting page → sound page ≡ true
 
--- Blank is the writing of no values.
+-- "Exactly the writing of some allowed values": a page is sound where there are such values, and nowhere else. Proof:
+-- Pages `sound-exactly`.
+pub record SomeWriting (page : List ℕ) : Type 0 where
+  pub values : Values
+  pub allowed-values : allAllowed values ≡ true
+  pub written : page ≡ writing values
+
+pub record SoundExactly : Type 0 where
+  pub sound-some : (page : List ℕ) → sound page ≡ true → SomeWriting page
+  pub some-sound : (page : List ℕ) → SomeWriting page → sound page ≡ true
+
+-- Blank is the writing of no values. Proof: Pages `blank-is-writing`.
 pub record BlankIsWriting : Type 0 where
   pub written : writing noValues ≡ blankPage
   pub read : valuesIn blankPage ≡ noValues
 
--- A save puts its value in and keeps the other entries; the page stays sound.
+-- A value put in under a key is there, the other entries are kept, and the page stays sound. Proof: Pages `put-keeps`.
+pub record Put (page : List ℕ) (k : Key) (x : ℕ) : Type 0 where
+  pub values : valuesIn (putPage page k x) ≡ withKey (valuesIn page) k x
+  pub sound-page : sound (putPage page k x) ≡ true
+
+abbrev pub PutKeeps : Type 0
+PutKeeps = (page : List ℕ) (k : Key) (x : ℕ) → sound page ≡ true → keyAllowed k x ≡ true → Put page k x
+
+-- So it is of a save, and of a fresh number. Proofs: Pages `save-keeps`, `number-keeps`.
 pub record Saved (page : List ℕ) (s : Setting) (x : ℕ) : Type 0 where
   pub values : valuesIn (savedPage page s x) ≡ withValue (valuesIn page) s x
   pub sound-page : sound (savedPage page s x) ≡ true
@@ -49,12 +80,19 @@ pub record Saved (page : List ℕ) (s : Setting) (x : ℕ) : Type 0 where
 abbrev pub SaveKeeps : Type 0
 SaveKeeps = (page : List ℕ) (s : Setting) (x : ℕ) → sound page ≡ true → allowed s x ≡ true → Saved page s x
 
+pub record Numbered (page : List ℕ) (n : ℕ) : Type 0 where
+  pub values : valuesIn (numberedPage page n) ≡ withNumber (valuesIn page) n
+  pub sound-page : sound (numberedPage page n) ≡ true
+
+abbrev pub NumberKeeps : Type 0
+NumberKeeps = (page : List ℕ) (n : ℕ) → sound page ≡ true → n < 4294967296 → Numbered page n
+
 -- What is loaded of a setting: the page's value, or the factory value where it has none.
 abbrev pub valueOr : Stored → ℕ → ℕ
 valueOr Absent x = x
 valueOr (Value y) x = y
 
--- From a sound page the lookup gives the bytes of that value, and it is allowed.
+-- From a sound page the lookup gives the bytes of that value, and it is allowed. Proof: Pages `loads-stored`.
 pub record Loaded (page : List ℕ) (s : Setting) : Type 0 where
   pub body : bodyOf page factoryPage (codeOf s) ≡ valueBytes s (valueOr (storedIn (valuesIn page) s) (factoryValue s))
   pub value : number (bodyOf page factoryPage (codeOf s)) ≡ valueOr (storedIn (valuesIn page) s) (factoryValue s)

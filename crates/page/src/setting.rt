@@ -1,9 +1,9 @@
-// The settings of the board that commands alter and the page keeps.
+// The settings of the board that commands alter, and the values that the page keeps.
 ghost use mathlib.Core.Path.{_≡_};
 ghost use mathlib.Core.Bool.{_&&_};
-ghost use lib.Dec.{leb};
-ghost use Rattle.page.specs.Settings.{codeOf, settingOf, allowed, valueSize, factoryValue};
-ghost use Rattle.page.specs.Page.{storedIn, withValue};
+ghost use lib.Dec.{eqb, leb};
+ghost use Rattle.page.specs.Settings.{codeOf, settingOf, someOf, baudRates, allowed, pageAllowed, valueSize, factoryValue};
+ghost use Rattle.page.specs.Page.{storedIn, withValue, withNumber};
 
 pub enum Setting {
     Baud,
@@ -19,7 +19,7 @@ pub enum Coded {
     Nothing,
 }
 
-// The value of a setting on the page, if it has one.
+// A value on the page, if it has one.
 pub enum Stored {
     Absent,
     Value(u32),
@@ -30,6 +30,8 @@ pub struct Values {
     pub baud: Stored,
     pub accelerometer: Stored,
     pub gyroscope: Stored,
+    // the last number accepted
+    pub number: Stored,
 }
 
 pub fn setting_of(code: u8) -> Coded
@@ -54,7 +56,7 @@ pub fn code_of(setting: Setting) -> u8
 }
 
 fn baud_allowed(value: u32) -> bool
-    ensures { λ r. ⌜ r ≡ allowed Setting.Baud value ⌝ }
+    ensures { λ r. ⌜ r ≡ someOf (eqb value) baudRates ⌝ }
 {
     match value {
         9600 | 19200 | 115200 | 230400 | 460800 | 921600 => true,
@@ -77,6 +79,13 @@ pub fn allowed(setting: Setting, value: u32) -> bool
         Setting::Accelerometer => between(1, value, 4),
         Setting::Gyroscope => between(1, value, 7),
     }
+}
+
+// Whether a page can hold this value of this setting: what the board takes, and nothing else.
+pub fn page_allowed(setting: Setting, value: u32) -> bool
+    ensures { λ r. ⌜ r ≡ pageAllowed setting value ⌝ }
+{
+    allowed(setting, value)
 }
 
 // The number of bytes of a value.
@@ -117,22 +126,41 @@ pub fn with_value(values: Values, setting: Setting, value: u32) -> Values
     let baud = values.baud;
     let accelerometer = values.accelerometer;
     let gyroscope = values.gyroscope;
+    let number = values.number;
     let stored = Stored::Value(value);
     match setting {
         Setting::Baud => Values {
             baud: stored,
             accelerometer,
             gyroscope,
+            number,
         },
         Setting::Accelerometer => Values {
             baud,
             accelerometer: stored,
             gyroscope,
+            number,
         },
         Setting::Gyroscope => Values {
             baud,
             accelerometer,
             gyroscope: stored,
+            number,
         },
+    }
+}
+
+// The values with a number put in, the others kept.
+pub fn with_number(values: Values, number: u32) -> Values
+    ensures { λ r. ⌜ r ≡ withNumber values number ⌝ }
+{
+    let baud = values.baud;
+    let accelerometer = values.accelerometer;
+    let gyroscope = values.gyroscope;
+    Values {
+        baud,
+        accelerometer,
+        gyroscope,
+        number: Stored::Value(number),
     }
 }

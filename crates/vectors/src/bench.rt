@@ -5,6 +5,7 @@ use crate::text;
 use board::Board;
 use board::Fed;
 use board::Port;
+use board::Started;
 use command::Settings;
 
 // The page has the first `length` of the bytes, so that it can be one of more than 64 bytes too.
@@ -98,14 +99,26 @@ impl Bench {
         FeedStep { fed, bench }
     }
 
-    // Feeds a message to port 0 as if the port held nothing. Both ports stay as they are: only the settings and the page go on.
-    pub(crate) fn feed_alone(self, message: &[u8], room: &mut [u8], n: usize) -> FeedStep {
-        let step = self.with_port(0, Port::new()).feed(0, message, room, n);
+    // Feeds a message to a port as if it held nothing. Both ports stay as they are: only the settings and the page go on.
+    pub(crate) fn feed_alone(
+        self,
+        port: u8,
+        message: &[u8],
+        room: &mut [u8],
+        n: usize,
+    ) -> FeedStep {
+        let step = self.with_port(port, Port::new())
+            .feed(port, message, room, n);
         let fed = step.fed;
         let after = step.bench;
-        let held = self.port(0);
-        let bench = after.with_port(0, held);
+        let held = self.port(port);
+        let bench = after.with_port(port, held);
         FeedStep { fed, bench }
+    }
+
+    // A new board on the page as it stands.
+    pub(crate) fn started(self) -> Started {
+        board::start(text::prefix(&self.bytes, self.length))
     }
 
     pub(crate) fn same_page(self, other: Bench) -> bool {

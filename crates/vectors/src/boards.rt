@@ -1,4 +1,4 @@
-// The verbs on a board that is fed one message at a time, and nothing else: board, handle, room.
+// The verbs on a board that is fed one message at a time, and nothing else: board, restart, handle, second, room.
 use crate::bench;
 use crate::bench::Bench;
 use crate::bench::Told;
@@ -10,14 +10,21 @@ use crate::text::MOST;
 use crate::text::Number;
 use board::Fed;
 use board::Port;
+use board::Started;
 
 // A verb that is not here is for the next module.
 pub(crate) fn outcome(verb: &[u8], args: &[u8], bench: Bench, out: Output) -> Told {
     if text::same(verb, b"board") {
         return start(args, bench, out);
     }
+    if text::same(verb, b"restart") {
+        return restart(bench, out);
+    }
     if text::same(verb, b"handle") {
-        return handle(args, bench, out);
+        return handle(0, args, bench, out);
+    }
+    if text::same(verb, b"second") {
+        return handle(1, args, bench, out);
     }
     if text::same(verb, b"room") {
         return handle_within(args, bench, out);
@@ -32,21 +39,35 @@ fn start(args: &[u8], bench: Bench, out: Output) -> Told {
     };
     let started = board::start(text::prefix(&bytes, n));
     let board = started.board;
-    let settings = board.settings;
-    let told = out.decimal(started.number as u64).text(b", ");
     Told {
         bench: Bench::on(board, bytes, n),
-        out: bench::say_settings(settings, told),
+        out: say_started(started, out),
     }
 }
 
-fn handle(args: &[u8], bench: Bench, out: Output) -> Told {
+fn say_started(started: Started, out: Output) -> Output {
+    let board = started.board;
+    let settings = board.settings;
+    let told = out.decimal(started.number as u64).text(b", ");
+    bench::say_settings(settings, told)
+}
+
+fn restart(bench: Bench, out: Output) -> Told {
+    let started = bench.started();
+    let board = started.board;
+    Told {
+        bench: bench.with_board(board),
+        out: say_started(started, out),
+    }
+}
+
+fn handle(port: u8, args: &[u8], bench: Bench, out: Output) -> Told {
     let mut message = [0u8; MOST];
     let Number::Value(n) = text::read_bytes(args, &mut message) else {
         return bench::bad_line(bench, out);
     };
     let mut room = [0xEEu8; Port::REPLY];
-    let step = bench.feed_alone(text::prefix(&message, n), &mut room, Port::REPLY);
+    let step = bench.feed_alone(port, text::prefix(&message, n), &mut room, Port::REPLY);
     let fed = step.fed;
     let after = step.bench;
     let told = say_handled(fed, &room, out);
@@ -68,7 +89,7 @@ fn handle_within(args: &[u8], bench: Bench, out: Output) -> Told {
         return bench::bad_line(bench, out);
     }
     let mut room = [0xEEu8; MOST];
-    let step = bench.feed_alone(text::prefix(&message, n), &mut room, length);
+    let step = bench.feed_alone(0, text::prefix(&message, n), &mut room, length);
     let fed = step.fed;
     let after = step.bench;
     let told = out.decimal(fed.number as u64)

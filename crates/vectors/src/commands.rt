@@ -1,4 +1,4 @@
-// The verbs on the controller's side: command, append, reply, row.
+// The verbs on the controller's side: command, numbered, append, reply, row.
 ghost use Prim.Native.Nat.{_≤_};
 ghost use lib.ListN.{length};
 use crate::messages;
@@ -14,7 +14,10 @@ use page::Stored;
 
 pub(crate) fn outcome(verb: &[u8], args: &[u8], out: Output) -> Output {
     if text::same(verb, b"command") {
-        return command(args, out);
+        return command(Stored::Absent, args, out);
+    }
+    if text::same(verb, b"numbered") {
+        return numbered(args, out);
     }
     if text::same(verb, b"append") {
         return append(args, out);
@@ -28,7 +31,8 @@ pub(crate) fn outcome(verb: &[u8], args: &[u8], out: Output) -> Output {
     pages::outcome(verb, args, out)
 }
 
-fn command(args: &[u8], out: Output) -> Output {
+// A command with a number, or without.
+fn command(number: Stored, args: &[u8], out: Output) -> Output {
     let Octet::Value(code) = text::read_octet(text::first_word(args)) else {
         return out.bad_line();
     };
@@ -36,11 +40,21 @@ fn command(args: &[u8], out: Output) -> Output {
     let Octet::Value(function) = text::read_small(text::first_word(others)) else {
         return out.bad_line();
     };
-    command_with(code, function, text::other_words(others), out)
+    command_with(number, code, function, text::other_words(others), out)
+}
+
+fn numbered(args: &[u8], out: Output) -> Output {
+    let Number::Value(number) = text::read_decimal(text::first_word(args)) else {
+        return out.bad_line();
+    };
+    if number > 0xFFFF_FFFF {
+        return out.bad_line();
+    }
+    command(Stored::Value(number as u32), text::other_words(args), out)
 }
 
 // The value and the room's length are still to be read.
-fn command_with(code: u8, function: u8, args: &[u8], out: Output) -> Output {
+fn command_with(number: Stored, code: u8, function: u8, args: &[u8], out: Output) -> Output {
     let Number::Value(value) = text::read_decimal(text::first_word(args)) else {
         return out.bad_line();
     };
@@ -54,15 +68,25 @@ fn command_with(code: u8, function: u8, args: &[u8], out: Output) -> Output {
         return out.bad_line();
     }
     let mut room = [0xEEu8; MOST];
-    let written = write_front(code, function, value as u32, &mut room, length);
+    let written = write_front(number, code, function, value as u32, &mut room, length);
     messages::say_written(written, text::prefix(&room, length), out)
 }
 
 // Writes as if `room` ended after `n` bytes.
-fn write_front(code: u8, function: u8, value: u32, room: &mut [u8], n: usize) -> Written
+fn write_front(
+    number: Stored,
+    code: u8,
+    function: u8,
+    value: u32,
+    room: &mut [u8],
+    n: usize,
+) -> Written
     requires { ⌜ n ≤ length (now room) ⌝ }
 {
-    client::write_command(code, function, value, &mut room[0..n])
+    match number {
+        Stored::Absent => client::write_command(code, function, value, &mut room[0..n]),
+        Stored::Value(x) => client::write_numbered(x, code, function, value, &mut room[0..n]),
+    }
 }
 
 fn append(args: &[u8], out: Output) -> Output {

@@ -48,7 +48,11 @@ fn say_values(values: Values, out: Output) -> Output {
     let baud = values.baud;
     let accelerometer = values.accelerometer;
     let gyroscope = values.gyroscope;
-    say_stored(gyroscope, say_stored(accelerometer, say_stored(baud, out)))
+    let number = values.number;
+    say_stored(
+        number,
+        say_stored(gyroscope, say_stored(accelerometer, say_stored(baud, out))),
+    )
 }
 
 fn say_stored(stored: Stored, out: Output) -> Output {
@@ -110,14 +114,36 @@ fn with_ranges(tally: Tally, baud: Stored, accelerometer: Stored) -> Tally {
     let mut i = 0;
     while i < 10 {
         let gyroscope = choice(i, 8);
+        next = with_numbers(next, baud, accelerometer, gyroscope);
+        i += 1;
+    }
+    next
+}
+
+// No number, the smallest, the largest, and one of four different bytes.
+fn with_numbers(tally: Tally, baud: Stored, accelerometer: Stored, gyroscope: Stored) -> Tally {
+    let mut next = tally;
+    let mut i = 0;
+    while i < 4 {
+        let number = number_choice(i);
         next = next.with(Values {
             baud,
             accelerometer,
             gyroscope,
+            number,
         });
         i += 1;
     }
     next
+}
+
+fn number_choice(i: u32) -> Stored {
+    match i {
+        0 => Stored::Absent,
+        1 => Stored::Value(0),
+        2 => Stored::Value(0xFFFF_FFFF),
+        _ => Stored::Value(0x0102_0304),
+    }
 }
 
 // The values from 0 to `last`, then none.
@@ -171,12 +197,15 @@ fn same_values(a: Values, b: Values) -> bool {
     let baud = a.baud;
     let accelerometer = a.accelerometer;
     let gyroscope = a.gyroscope;
+    let number = a.number;
     let rate = b.baud;
     let acceleration = b.accelerometer;
     let rotation = b.gyroscope;
+    let last = b.number;
     same_stored(baud, rate)
         && same_stored(accelerometer, acceleration)
         && same_stored(gyroscope, rotation)
+        && same_stored(number, last)
 }
 
 fn same_stored(a: Stored, b: Stored) -> bool {

@@ -10,13 +10,28 @@ pub struct Case {
     chunk: Vec<u8>,
     page: [u8; 64],
     first: Option<u8>,
+    /// Whether the page is put back behind each feed, so that a number is fresh in each.
+    put_back: bool,
+}
+
+fn page_with(last_number: Option<u32>) -> [u8; 64] {
+    let mut page = [0; 64];
+    let values = Values { baud: Some(9600), accelerometer: Some(1), gyroscope: Some(1), last_number };
+    values.write(&mut page).expect("allowed values");
+    page
 }
 
 fn full_page() -> [u8; 64] {
-    let mut page = [0; 64];
-    let values = Values { baud: Some(9600), accelerometer: Some(1), gyroscope: Some(1) };
-    values.write(&mut page).expect("allowed values");
-    page
+    page_with(None)
+}
+
+fn numbered_page() -> [u8; 64] {
+    page_with(Some(9))
+}
+
+/// A numbered save of a range.
+fn numbered_save(number: u8) -> Vec<u8> {
+    plain::message(0x7C, &[0, 0, 0, number, 0x02, 0x07, 1, 3])
 }
 
 /// The settings that the full page keeps, so that the board stays as it is.
@@ -27,7 +42,10 @@ fn three_settings() -> Vec<u8> {
 /// The cases, the cheapest first.
 pub fn cases() -> Vec<Case> {
     let ping = plain::message(0x01, &[0x02, 0]);
-    let case = |name, port, chunk: &[u8], page| Case { name, port, chunk: chunk.to_vec(), page, first: None };
+    let case = |name, port, chunk: &[u8], page| {
+        let chunk = chunk.to_vec();
+        Case { name, port, chunk, page, first: None, put_back: false }
+    };
     let blank = [0xFF; 64];
     vec![
         case("refused: port 2", 2, &[], blank),
@@ -45,6 +63,10 @@ pub fn cases() -> Vec<Case> {
             &plain::message(0x02, &[0x01, 1, 2].repeat(16)),
             full_page(),
         ),
+        case("Ping, page of four entries", 0, &ping, numbered_page()),
+        case("no number: refused, page of four entries", 0, &plain::message(0x02, &[0x07, 1, 3]), numbered_page()),
+        case("stale: refused, page of four entries", 0, &numbered_save(9), numbered_page()),
+        Case { put_back: true, ..case("numbered save, page of four entries", 0, &numbered_save(10), numbered_page()) },
         case("34 bytes, blank page", 0, &plain::message(0xA2, &[0x11; 28]), blank),
         case("261 bytes, blank page", 0, &plain::message(0xA2, &[0x11; 255]), blank),
     ]
@@ -61,6 +83,9 @@ impl Case {
         }
         // A refusal is one of the cases.
         let _ = std::hint::black_box(board.feed(self.port, std::hint::black_box(&self.chunk), &mut room, page));
+        if self.put_back {
+            *page = self.page;
+        }
     }
 
     /// The nanoseconds of one feed, in the smallest of some runs.

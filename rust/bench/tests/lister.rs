@@ -6,7 +6,7 @@
 #![forbid(unsafe_code)]
 
 use bench::files::File;
-use plain::generate::{fields, Rng};
+use plain::generate::{fields, numbered, Rng};
 use std::io::Write;
 use std::path::Path;
 use std::process::{Command, Stdio};
@@ -68,4 +68,13 @@ fn several_fields() {
     let sixteen = plain::message(0x01, &[0x02, 0x00].repeat(16)).repeat(2000);
     assert_eq!(plain::listing(&sixteen).lines().count(), 2 + 16 * 2000);
     assert_same("sixteen Pings in each message", &sixteen);
+}
+
+/// Numbered commands, and others between them, which are refused as soon as the page keeps a number.
+#[test]
+fn numbered_commands() {
+    let mut rng = Rng::new(3);
+    for _ in 0..40 {
+        assert_same("numbered commands", &numbered::stream(&mut rng, 200));
+    }
 }

@@ -111,11 +111,15 @@ fn stack_of_a_feed() {
     let longest = plain::message(0x02, &[0x11; 255]);
     let save = plain::message(0x02, &[0x01, 1, 3]);
     let reports = plain::message(0x02, &[0x01, 1, 2].repeat(16));
-    let cases: [(&str, Board, &[u8]); 8] = [
+    let numbered_save = plain::message(0x7C, &[0, 0, 0, 1, 0x02, 0x01, 1, 3]);
+    let numbered_reports = plain::message(0x7C, &[&[0, 0, 0, 1, 0x02], &[0x01, 1, 2].repeat(16)[..]].concat());
+    let cases: [(&str, Board, &[u8]); 10] = [
         ("nothing fed", fresh(), &[]),
         ("a save", fresh(), &save),
         ("16 reports at once", fresh(), &reports),
         ("16 reports, the last 27", holding(&reports[..27]), &reports[27..]),
+        ("a numbered save", fresh(), &numbered_save),
+        ("16 numbered reports", fresh(), &numbered_reports),
         ("261 bytes in one chunk", fresh(), &longest),
         ("261 bytes, the first 130", fresh(), &longest[..130]),
         ("261 bytes, the last 131", holding(&longest[..130]), &longest[130..]),

@@ -23,6 +23,15 @@ pub struct FieldGiven {
     pub value: u32,
 }
 
+/// What the writer of numbered commands is given.
+#[derive(Clone, Copy, Debug)]
+pub struct NumberedGiven {
+    pub number: u32,
+    pub code: u8,
+    pub function: u8,
+    pub value: u32,
+}
+
 /// Feeds a copy of a board.
 pub fn feed(port: u8, mut board: Board, chunk: &[u8], room: &mut [u8], page: &mut [u8]) -> Fed {
     let Stepped { number, taken, skipped, saved, .. } = ffi::feed_in_place(port, &mut board, chunk, room, page);
@@ -49,6 +58,11 @@ pub trait Calls: Wrapper {
 
     fn write_command(&self, code: u8, function: u8, value: u32, room: &mut [u8]) -> Written {
         ffi::write_command(code, function, value, room)
+    }
+
+    fn write_numbered(&self, given: &NumberedGiven, room: &mut [u8]) -> Written {
+        let NumberedGiven { number, code, function, value } = *given;
+        ffi::write_numbered(number, code, function, value, room)
     }
 
     fn append_field(&self, given: &FieldGiven, length: usize, room: &mut [u8]) -> Written {

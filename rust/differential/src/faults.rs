@@ -1,7 +1,7 @@
 //! Planted faults: the library, its wrapper, or what the reckoning is compared with, with one answer changed in one case.
 //! Each must be found, or the comparison cannot fail.
 
-use crate::calls::{self, Calls, Fed, FieldGiven};
+use crate::calls::{self, Calls, Fed, FieldGiven, NumberedGiven};
 use crate::folds::{refold, Before};
 use crate::lenient;
 use crate::wrapper::Wrapper;
@@ -88,10 +88,80 @@ pub enum Fault {
     PingInType02,
     UnusedValueTested,
     FieldRangeModulo256,
+    // Found in numbered commands: the test of the number.
+    EqualAccepted,
+    AnyAccepted,
+    OtherAccepted,
+    OnlyNextAccepted,
+    ReadBackwards,
+    ComparedBackwards,
+    ComparedIn16Bits,
+    ComparedSigned,
+    LastWraps,
+    LostAtStart,
+    ZeroStale,
+    // What is done with a fresh number and with a stale one.
+    StaleHandled,
+    FailedNotSpent,
+    FirstFailedNotSpent,
+    TypeNotSpent,
+    SaveDropsNumber,
+    InsideFirst,
+    InsideOnPort0,
+    MarkOfInside,
+    SettingsOfInsideLost,
+    NumberInNumber,
+    ReplyOfInnerType,
+    // The one row where the fields are not reached.
+    DamagedSpends,
+    DamagedEchoInside,
+    DamagedStale,
+    ShortAs3,
+    ShortEcho,
+    ShortSpends,
+    EchoOfNumber,
+    EchoOfType,
+    NoFieldAs4,
+    FieldsBeforeType,
+    TypeBeforeStale,
+    NumberedRefusedOnPort1,
+    // Found in commands without a number.
+    UnnumberedUse,
+    UnnumberedSave,
+    UnnumberedLoad,
+    UnnumberedFactory,
+    Port1Refused,
+    RefusedWithoutEntry,
+    RefusedWhole,
+    NumberZeroAsNone,
+    ReportRefused,
+    PingRefused,
+    OtherFunctionsRefused,
+    SizeZeroRefused,
+    Error5Before3,
+    Error5After4,
+    // Found in replies to numbered commands, and in the writer of these.
+    Error5Refused,
+    Error6Read,
+    OneRowInNumbered,
+    NoValueInNumbered,
+    NumberAsValue,
+    NumberWrittenBackwards,
+    RoomBeforeNumbered,
+    BytePastNumbered,
+    PingAsSetting,
+    // Found in the page calls, on pages that keep a number.
+    StartOnNumber,
+    FourEntriesRefused,
+    NumberOfOneByte,
+    NumberReadBackwards,
+    LastNumberNotRead,
+    NumberNotWritten,
+    NumberNotThere,
+    BodyOfNumber,
     // Found in the calls of their own.
     StartOnThreeEntries,
     WholeWithoutSums,
-    ReplyOfError5,
     SignallingNanRead,
     FieldPlace,
     FieldCopyInShortRoom,
@@ -115,6 +185,8 @@ pub enum Fault {
     WrappedReply,
     WrappedRows,
     WrappedAppendedField,
+    WrappedNumbered,
+    WrappedNumberRead,
     WrappedField,
     WrappedFieldData,
     WrappedMessage,
@@ -150,6 +222,10 @@ impl Calls for Planted {
         let mut started = ffi::start(page);
         if self.is(Fault::StartOnThreeEntries) && started.number == 0 && page[0] == 3 {
             started.board.settings.gyroscope = 3;
+        }
+        // A page with a number is taken for one without settings.
+        if self.is(Fault::StartOnNumber) && started.number == 0 && has_entry(page, 0x70) {
+            started.board.settings = ffi::start(&[0xFF; 64]).board.settings;
         }
         started
     }
@@ -203,16 +279,15 @@ impl Calls for Planted {
         lenient::append(self.0, given, length, room)
     }
 
+    fn write_numbered(&self, given: &NumberedGiven, room: &mut [u8]) -> Written {
+        lenient::write_numbered(self.0, given, room)
+    }
+
     fn read_reply(&self, message: &[u8], row: usize) -> FlatReply {
         if let Some(read) = lenient::read(self.0, message, row) {
             return read;
         }
-        let read = ffi::read_reply(message, row);
-        let more = read.number == 23 && message.len() == 10 && message[4..6] == [0x80, 2] && message[7] == 5;
-        if self.is(Fault::ReplyOfError5) && more {
-            return FlatReply { number: 0, kind: message[2], echo: message[6], error: 5, ..read };
-        }
-        read
+        ffi::read_reply(message, row)
     }
 
     fn read_field(&self, message: &[u8], k: usize) -> FlatField {
@@ -255,6 +330,8 @@ impl Calls for Planted {
     fn check_page(&self, page: &[u8]) -> u8 {
         match ffi::check_page(page) {
             20 if self.is(Fault::PageOfNoEntry) && page[0] == 0 => 0,
+            0 if self.is(Fault::FourEntriesRefused) && page[0] == 4 => 20,
+            20 if self.is(Fault::NumberOfOneByte) && page.starts_with(&[1, 0x70, 4, 1]) => 0,
             number => number,
         }
     }
@@ -265,12 +342,26 @@ impl Calls for Planted {
             read.values.has_accelerometer = true;
             read.values.accelerometer = u32::from(page[4]);
         }
+        if self.is(Fault::NumberReadBackwards) {
+            read.values.last_number = read.values.last_number.swap_bytes();
+        }
+        // A body of FF is taken for the end of the page.
+        if self.is(Fault::LastNumberNotRead) && read.values.last_number == u32::MAX {
+            read.values.has_last_number = false;
+            read.values.last_number = 0;
+        }
         read
     }
 
     fn write_page(&self, mut values: FlatValues, page: &mut [u8]) -> u8 {
         if self.is(Fault::ValueNotThere) && !values.has_baud {
             values.has_baud = values.baud == 9600;
+        }
+        if self.is(Fault::NumberNotWritten) && values.has_gyroscope {
+            values.has_last_number = false;
+        }
+        if self.is(Fault::NumberNotThere) && values.last_number > 0 {
+            values.has_last_number = true;
         }
         ffi::write_page(values, page)
     }
@@ -280,6 +371,9 @@ impl Calls for Planted {
             // Of a page that has all three entries the last is not found.
             Written { number: 0, .. } if self.is(Fault::BodyFromFactory) && saved[0] == 3 && code == 8 => {
                 ffi::copy_body(&[0xFF; 64], factory, code, room)
+            }
+            Written { number: 0, .. } if self.is(Fault::BodyOfNumber) && code == 0x70 && saved[0] == 4 => {
+                Written { number: 0, length: 0 }
             }
             // The factory page is tested only where it is looked into.
             Written { number: 19 | 20, .. } if self.is(Fault::FactoryPageUntested) && has_entry(saved, code) => {
@@ -352,6 +446,12 @@ impl Wrapper for Planted {
         self.next_refusal(Fault::WrappedCommand, ketphiroj::write_command(code, function, value, room))
     }
 
+    fn wrapped_write_numbered(&self, given: &NumberedGiven, room: &mut [u8]) -> Result<usize, Refusal> {
+        let NumberedGiven { number, code, function, value } = *given;
+        let written = ketphiroj::write_numbered(number, code, function, value, room);
+        self.next_refusal(Fault::WrappedNumbered, written)
+    }
+
     fn wrapped_append_field(&self, given: &FieldGiven, length: usize, room: &mut [u8]) -> Result<usize, Refusal> {
         let FieldGiven { kind, code, function, value } = *given;
         let appended = ketphiroj::append_field(kind, code, function, value, length, room);
@@ -392,6 +492,7 @@ impl Wrapper for Planted {
         match Values::read(page) {
             // A page that is neither blank nor sound is read as a blank one.
             Err(Refusal::Page) if self.is(Fault::WrappedValuesRead) => Ok(Values::default()),
+            Ok(values) if self.is(Fault::WrappedNumberRead) => Ok(Values { last_number: None, ..values }),
             read => read,
         }
     }
@@ -458,7 +559,7 @@ fn report_type_a5(port: u8, mut board: Board, chunk: &[u8], room: &mut [u8]) -> 
     let length = usize::from(*chunk.get(3)?) + 6;
     let message = chunk.get(..length)?;
     let damaged = !plain::sums_right(message);
-    let reply = plain::handle(message, plain::FACTORY, plain::Values::default()).reply;
+    let reply = plain::handle(port, message, plain::FACTORY, plain::Values::default()).reply;
     room[..reply.len()].copy_from_slice(&reply);
     if damaged {
         let fed = if port == 0 { &mut board.first } else { &mut board.second };

@@ -5,14 +5,13 @@ use crate::calls::Calls;
 use crate::feeding::{Feed, Pair};
 use crate::group::{same, Outcome, Ran};
 use crate::lists::{hex, run_or_shrink, Beside};
-use crate::records;
 use crate::runs::cut_at_every_place;
 use crate::singles;
 use ketphiroj::Board;
 use plain::generate::{self, fields, Rng};
 
 /// Fields of type 02, right and wrong. The settings are not the factory's, so that a load or the factory value shows.
-fn some_fields() -> Vec<Vec<u8>> {
+pub fn some_fields() -> Vec<Vec<u8>> {
     let mut all = Vec::new();
     for (code, values) in [(0x01, [9600, 921600]), (0x07, [1, 4]), (0x08, [1, 7])] {
         all.extend(values.map(|value| fields::setting(code, 1, value)));
@@ -27,7 +26,7 @@ fn some_fields() -> Vec<Vec<u8>> {
 }
 
 /// Fields of type 01, right and wrong.
-fn some_pings() -> Vec<Vec<u8>> {
+pub fn some_pings() -> Vec<Vec<u8>> {
     vec![vec![0x02, 0], vec![0x02, 1, 0], vec![0x01, 1, 2], vec![0x07, 1, 3], vec![0x63, 0]]
 }
 
@@ -86,14 +85,13 @@ fn four_functions(calls: &impl Calls, rng: &mut Rng, ran: &mut Ran) -> Outcome {
 
 /// A board that holds nothing, with any allowed settings and any blank or sound page.
 fn fresh(rng: &mut Rng) -> Pair {
-    let ports = [plain::Port::fresh(), plain::Port::fresh()];
-    let plain = plain::Board { ports, settings: generate::allowed_settings(rng) };
-    Pair { board: records::board(&plain), plain, page: generate::sound_page(rng).to_vec() }
+    let page = generate::sound_page(rng);
+    singles::holding_nothing(rng, &page)
 }
 
 /// Rooms of all lengths for the longest reply and for a short one.
 fn rooms(calls: &impl Calls, rng: &mut Rng, ran: &mut Ran) -> Outcome {
-    for payload in [vec![0x01, 1, 2].repeat(16), vec![0x07, 1, 3]] {
+    for payload in [[0x01, 1, 2].repeat(16), vec![0x07, 1, 3]] {
         let chunk = plain::message(0x02, &payload);
         for room in 0..=200 {
             singles::one(calls, &fresh(rng), &Feed { port: 0, chunk: &chunk, room }, ran)?;

@@ -3,6 +3,8 @@
 
 use crate::calls::Fed;
 use crate::faults::Fault;
+use crate::numbering;
+use crate::records;
 use ketphiroj::{Board, Settings};
 use plain::{Handled, Row, Values};
 
@@ -15,12 +17,16 @@ pub struct Before<'a> {
     pub page: Vec<u8>,
 }
 
-/// The message that a feed reported, what it was handled on, and how many of its bytes were held before.
-struct Reported {
-    message: Vec<u8>,
-    held: usize,
-    settings: plain::Settings,
-    values: Values,
+/// The message that a feed reported, the port that it came on, what it was handled on, and how many of its bytes were
+/// held before.
+pub struct Reported {
+    pub message: Vec<u8>,
+    pub port: u8,
+    pub held: usize,
+    pub settings: plain::Settings,
+    pub values: Values,
+    /// Whether the board was as starting gives it on that page.
+    pub just_started: bool,
 }
 
 impl Before<'_> {
@@ -38,16 +44,19 @@ impl Before<'_> {
         let Settings { baud, accelerometer, gyroscope } = self.board.settings;
         Some(Reported {
             message: whole(place)?.to_vec(),
+            port: self.port,
             held: port.held.saturating_sub(place),
             settings: plain::Settings { baud, accelerometer, gyroscope },
             values: plain::values(&self.page)?,
+            just_started: records::board(&plain::start(&self.page).1) == self.board,
         })
     }
 }
 
 /// Where the fault shows in the message that was reported, its outcome instead of the library's.
 pub fn refold(fault: Fault, before: &Before, fed: &mut Fed, room: &mut [u8], page: &mut [u8]) {
-    let handled = before.reported(fed).and_then(|reported| reported.wrong(fault));
+    let handled =
+        before.reported(fed).and_then(|reported| reported.wrong(fault).or_else(|| numbering::wrong(fault, &reported)));
     let Some(handled) = handled.filter(|handled| handled.reply.len() <= room.len()) else {
         return;
     };
@@ -60,23 +69,28 @@ pub fn refold(fault: Fault, before: &Before, fed: &mut Fed, room: &mut [u8], pag
 }
 
 impl Reported {
-    fn kind(&self) -> u8 {
+    #[cfg(test)]
+    pub fn new(message: Vec<u8>, port: u8, settings: plain::Settings, values: Values) -> Reported {
+        Reported { message, port, held: 0, settings, values, just_started: false }
+    }
+
+    pub fn kind(&self) -> u8 {
         self.message[2]
     }
 
-    fn payload(&self) -> &[u8] {
+    pub fn payload(&self) -> &[u8] {
         &self.message[4..self.message.len() - 2]
     }
 
     /// The bytes of each field; none where they do not fill the payload.
-    fn fields(&self) -> Option<Vec<&[u8]>> {
+    pub fn fields(&self) -> Option<Vec<&[u8]>> {
         let bytes = |field: &plain::Part| &self.payload()[field.place - 2..field.place + field.data.len()];
         Some(plain::fields_of(self.payload())?.iter().map(bytes).collect())
     }
 
     /// A separate message with this field alone.
     fn separate(&self, field: &[u8], settings: plain::Settings, values: Values) -> Handled {
-        plain::handle(&plain::message(self.kind(), field), settings, values)
+        plain::handle(self.port, &plain::message(self.kind(), field), settings, values)
     }
 
     /// The fields one after the other, each on what `on` says of those before it.
@@ -100,7 +114,7 @@ impl Reported {
     }
 
     /// One row, and nothing done.
-    fn refused(&self, echo: u8, error: u8) -> Handled {
+    pub fn refused(&self, echo: u8, error: u8) -> Handled {
         let (settings, values) = (self.settings, self.values);
         let rows = vec![Row { echo, error, value: None }];
         Handled { rows, reply: Vec::new(), saved: false, settings, values }
@@ -146,7 +160,7 @@ impl Reported {
         let end = (0..payload.len()).rev().find(|&end| plain::fields_of(&payload[..end]).is_some())?;
         let beginning = Reported { message: plain::message(self.kind(), &payload[..end]), ..*self };
         let fields = beginning.fields().filter(|fields| (1..=16).contains(&fields.len()));
-        let first = plain::handle(&plain::message(self.kind(), &[payload[0], 0]), self.settings, self.values);
+        let first = self.separate(&[payload[0], 0], self.settings, self.values);
         match fault {
             Fault::UnfilledAsFarAsItGoes => fields.map(|fields| self.right(&fields)),
             Fault::LastByteLeftOver if end + 1 == payload.len() => fields.map(|fields| self.right(&fields)),
@@ -218,15 +232,16 @@ fn with_rows(mut handled: Handled, change: impl Fn(&mut Row, &plain::Settings)) 
 /// reading gives for the one.
 #[test]
 fn right_without_a_fault() {
-    use plain::generate::{self, fields, Rng};
+    use plain::generate::{self, fields, numbered, Rng};
     let mut rng = Rng::new(16);
     for _ in 0..20_000 {
         let kind = rng.pick(&[0x01, 0x02]);
         let count = rng.between(1, 16);
         let message = plain::message(kind, &fields::row(&mut rng, kind, count));
-        let (settings, values) = (generate::allowed_settings(&mut rng), generate::values(&mut rng));
-        let expected = plain::handle(&message, settings, values);
-        let reported = Reported { message, held: 0, settings, values };
+        let (settings, values) = (generate::allowed_settings(&mut rng), numbered::values(&mut rng));
+        let port = rng.below(2) as u8;
+        let expected = plain::handle(port, &message, settings, values);
+        let reported = Reported::new(message, port, settings, values);
         let right = reported.right(&reported.fields().expect("filled"));
         assert_eq!(Handled { reply: plain::reply_of(kind, &right.rows), ..right }, expected);
     }

@@ -1,6 +1,6 @@
-//! Reply readers and writers of fields that are wrong in one point.
+//! Reply readers and writers of fields and of numbered commands that are wrong in one point.
 
-use crate::calls::FieldGiven;
+use crate::calls::{FieldGiven, NumberedGiven};
 use crate::faults::Fault;
 use ketphiroj::ffi::{self, FlatReply, Written};
 use plain::{Part, Row};
@@ -36,7 +36,7 @@ pub fn read(fault: Fault, message: &[u8], row: usize) -> Option<FlatReply> {
     })
 }
 
-const OF_ROWS: [Fault; 14] = [
+const OF_ROWS: [Fault; 19] = [
     Fault::NoRowAsLast,
     Fault::NoRowAs23,
     Fault::RowsFromOne,
@@ -51,11 +51,20 @@ const OF_ROWS: [Fault; 14] = [
     Fault::ValueOfAnotherCode,
     Fault::TwoValues,
     Fault::RowOfSize3,
+    Fault::Error5Refused,
+    Fault::Error6Read,
+    Fault::OneRowInNumbered,
+    Fault::NoValueInNumbered,
+    Fault::NumberAsValue,
 ];
 
 /// The rows of a reply, with one fault in how many and where they are allowed.
 fn rows(fault: Fault, kind: u8, fields: &[Part], asked: usize) -> Option<Vec<Row>> {
-    let several = kind == 0x01 || kind == 0x02 || fault == Fault::RowsInAnyType;
+    let several = match kind {
+        0x01 | 0x02 => true,
+        0x7C => fault != Fault::OneRowInNumbered,
+        _ => fault == Fault::RowsInAnyType,
+    };
     let most = match fault {
         Fault::SeventeenRows if several => 17,
         _ if several => 16,
@@ -75,10 +84,15 @@ fn rows(fault: Fault, kind: u8, fields: &[Part], asked: usize) -> Option<Vec<Row
 
 fn read_fields(fault: Fault, kind: u8, fields: &[Part]) -> Option<Vec<Row>> {
     let mut rows: Vec<Row> = Vec::new();
+    let last = match fault {
+        Fault::Error5Refused => 4,
+        Fault::Error6Read => 6,
+        _ => 5,
+    };
     for field in fields {
         match *field.data {
-            [echo, error @ 0..=4] if field.code == 0x80 => rows.push(Row { echo, error, value: None }),
-            [echo, error @ 0..=4, _] if field.code == 0x80 && fault == Fault::RowOfSize3 => {
+            [echo, error] if field.code == 0x80 && error <= last => rows.push(Row { echo, error, value: None }),
+            [echo, error, _] if field.code == 0x80 && error <= last && fault == Fault::RowOfSize3 => {
                 rows.push(Row { echo, error, value: None })
             }
             _ => {
@@ -91,13 +105,40 @@ fn read_fields(fault: Fault, kind: u8, fields: &[Part]) -> Option<Vec<Row>> {
 }
 
 fn value(fault: Fault, kind: u8, row: &Row, field: &Part) -> Option<u32> {
-    let right = (kind == 0x02 || (kind == 0x01 && fault == Fault::ValueInType01))
+    let reports = match kind {
+        0x01 => fault == Fault::ValueInType01,
+        0x02 => true,
+        0x7C => fault != Fault::NoValueInNumbered,
+        _ => false,
+    };
+    let number = fault == Fault::NumberAsValue && field.code == 0x70 && field.data.len() == 4;
+    let right = reports
         && (row.error == 0 || fault == Fault::ValueAfterError)
         && (field.code == row.echo || fault == Fault::ValueOfAnotherCode)
         && (row.value.is_none() || fault == Fault::TwoValues)
-        && plain::value_size(field.code) == Some(field.data.len());
+        && (number || plain::value_size(field.code) == Some(field.data.len()));
     let value = field.data.iter().fold(0, |value: u32, &byte| value << 8 | u32::from(byte));
-    (right && plain::allowed(field.code, value)).then_some(value)
+    (right && (number || plain::allowed(field.code, value))).then_some(value)
+}
+
+/// What a writer of numbered commands with the fault answers.
+pub fn write_numbered(fault: Fault, given: &NumberedGiven, room: &mut [u8]) -> Written {
+    let NumberedGiven { number, code, function, value } = *given;
+    let number = if fault == Fault::NumberWrittenBackwards { number.swap_bytes() } else { number };
+    let written = ffi::write_numbered(number, code, function, value, room);
+    match (fault, written.number) {
+        (Fault::RoomBeforeNumbered, 28) if room.is_empty() => Written { number: 18, length: 0 },
+        (Fault::BytePastNumbered, 0) if room.len() > written.length => {
+            room[written.length] = 0;
+            written
+        }
+        // The type inside is always 02.
+        (Fault::PingAsSetting, 0) if code == 0x02 => {
+            let payload = [&number.to_be_bytes()[..], &[0x02, 0x02, 0]].concat();
+            ffi::write_message(0x7C, &payload, room)
+        }
+        _ => written,
+    }
 }
 
 /// What a writer of one field with the fault answers.
@@ -145,8 +186,9 @@ fn after(fault: Fault, written: Written, length: usize, room: &mut [u8]) -> Writ
 fn right_without_a_fault() {
     use plain::generate::{fields, Rng};
     let mut rng = Rng::new(23);
-    for _ in 0..50_000 {
-        let message = fields::reply_of_rows(&mut rng);
+    for turn in 0..50_000 {
+        let message =
+            if turn % 2 == 0 { fields::reply_of_rows(&mut rng) } else { fields::reply_of_kind(&mut rng, 0x7C) };
         let parts = plain::fields_of(&message[4..message.len() - 2]);
         let read = parts.and_then(|parts| rows(Fault::JunkKept, message[2], &parts, 0)).unwrap_or_default();
         for (row, &Row { echo, error, value }) in read.iter().enumerate() {

@@ -26,7 +26,7 @@ pub fn run(calls: &impl Calls, page: &[u8], list: &[Step], beside: Beside, ran: 
             Step::Restart => {
                 reckoned_end(calls, &reckoning, &pair)?;
                 pair = started(calls, &pair.page.clone())?;
-                reckoning = reckoning.map(|_| Reckoning::new(&pair.page));
+                reckoning.iter_mut().for_each(Reckoning::restart);
             }
             Step::Feed(call) => {
                 let number = feed(calls, &mut pair, call, beside, &mut reckoning)

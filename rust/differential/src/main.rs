@@ -14,6 +14,8 @@ mod group;
 mod lenient;
 mod lists;
 mod messages;
+mod numbered;
+mod numbering;
 mod pages;
 mod records;
 mod rows;
@@ -56,9 +58,17 @@ enum Group {
     SeparateMessages,
     ReplyRows,
     AppendedFields,
+    NumberedCommands,
+    UnnumberedCommands,
+    Histories,
+    CutNumbered,
+    Replays,
+    GrowingNumbers,
+    NumberedReplies,
+    WrittenNumbered,
 }
 
-const GROUPS: [Group; 24] = [
+const GROUPS: [Group; 32] = [
     Group::Lists,
     Group::HardLists,
     Group::ReckonedLists,
@@ -83,6 +93,14 @@ const GROUPS: [Group; 24] = [
     Group::SeparateMessages,
     Group::ReplyRows,
     Group::AppendedFields,
+    Group::NumberedCommands,
+    Group::UnnumberedCommands,
+    Group::Histories,
+    Group::CutNumbered,
+    Group::Replays,
+    Group::GrowingNumbers,
+    Group::NumberedReplies,
+    Group::WrittenNumbered,
 ];
 
 impl Group {
@@ -102,6 +120,10 @@ impl Group {
             Group::CutFields => 2_000,
             Group::FieldLists => 40_000,
             Group::SeparateMessages => 100_000,
+            Group::Histories => 60_000,
+            Group::CutNumbered => 2_000,
+            Group::Replays => 60_000,
+            Group::GrowingNumbers => 30_000,
             _ => 1,
         }
     }
@@ -110,16 +132,17 @@ impl Group {
     fn numbers(self) -> &'static [u8] {
         match self {
             Group::Lists | Group::ReckonedLists | Group::WrappedLists | Group::RunsOfA5 => &[0, 1, 16, 18],
-            Group::FieldLists => &[0, 1, 16, 18],
-            Group::HardLists | Group::LongStreams | Group::CutFields => &[0, 1],
+            Group::FieldLists | Group::Histories | Group::GrowingNumbers => &[0, 1, 16, 18],
+            Group::HardLists | Group::LongStreams | Group::CutFields | Group::CutNumbered => &[0, 1],
             Group::Boards => &[0, 1, 16, 17, 18, 19, 20],
-            Group::Commands | Group::SeparateMessages => &[0],
+            Group::Commands | Group::SeparateMessages | Group::Replays => &[0],
+            Group::NumberedCommands | Group::UnnumberedCommands => &[0],
             Group::Starts | Group::Pages | Group::WrittenPages => &[0, 19, 20],
             Group::Readers => &[0, 18, 21, 22, 23, 24, 25, 27],
             Group::Replies => &[0, 23, 27],
-            Group::ReplyRows => &[0, 21, 22, 23, 27],
+            Group::ReplyRows | Group::NumberedReplies => &[0, 21, 22, 23, 27],
             Group::WrittenMessages => &[0, 18, 26],
-            Group::WrittenCommands | Group::AppendedFields => &[0, 18, 28],
+            Group::WrittenCommands | Group::AppendedFields | Group::WrittenNumbered => &[0, 18, 28],
             Group::Bodies => &[0, 18, 19, 20],
             Group::WrittenData | Group::FactoryPages | Group::FieldMessages => &[0, 18],
         }
@@ -152,6 +175,14 @@ impl Group {
             Group::SeparateMessages => fields::separate(calls, rng, ran),
             Group::ReplyRows => rows::replies(calls, rng, ran),
             Group::AppendedFields => rows::append(calls, rng, ran),
+            Group::NumberedCommands => numbered::commands(calls, rng, ran),
+            Group::UnnumberedCommands => numbered::unnumbered(calls, rng, ran),
+            Group::Histories => numbered::histories(calls, rng, ran),
+            Group::CutNumbered => numbered::cut(calls, rng, ran),
+            Group::Replays => numbered::replays(calls, rng, ran),
+            Group::GrowingNumbers => numbered::grow(calls, rng, ran),
+            Group::NumberedReplies => numbered::replies(calls, rng, ran),
+            Group::WrittenNumbered => numbered::write(calls, rng, ran),
         }
     }
 
@@ -166,7 +197,7 @@ impl Group {
 }
 
 /// Each planted fault, and the group that is to find it.
-const FAULTS: [(Fault, Group); 103] = [
+const FAULTS: [(Fault, Group); 169] = [
     (Fault::ReplyOfError4, Group::Lists),
     (Fault::RoomPastTheReply, Group::Lists),
     (Fault::SkippedOfHeldMessage, Group::Lists),
@@ -202,7 +233,8 @@ const FAULTS: [(Fault, Group); 103] = [
     (Fault::WrappedMessageCheck, Group::Readers),
     (Fault::WrappedField, Group::Readers),
     (Fault::WrappedFieldData, Group::Readers),
-    (Fault::ReplyOfError5, Group::Replies),
+    (Fault::Error6Read, Group::Replies),
+    (Fault::Error5Refused, Group::Replies),
     (Fault::WrappedReply, Group::Replies),
     (Fault::RoomThatJustFits, Group::WrittenMessages),
     (Fault::WrappedMessage, Group::WrittenMessages),
@@ -270,6 +302,71 @@ const FAULTS: [(Fault, Group); 103] = [
     (Fault::UnusedValueTested, Group::AppendedFields),
     (Fault::FieldRangeModulo256, Group::AppendedFields),
     (Fault::WrappedAppendedField, Group::AppendedFields),
+    (Fault::EqualAccepted, Group::Replays),
+    (Fault::AnyAccepted, Group::GrowingNumbers),
+    (Fault::OtherAccepted, Group::Replays),
+    (Fault::OnlyNextAccepted, Group::NumberedCommands),
+    (Fault::ReadBackwards, Group::NumberedCommands),
+    (Fault::ComparedBackwards, Group::GrowingNumbers),
+    (Fault::ComparedIn16Bits, Group::GrowingNumbers),
+    (Fault::ComparedSigned, Group::NumberedCommands),
+    (Fault::LastWraps, Group::NumberedCommands),
+    (Fault::LostAtStart, Group::Replays),
+    (Fault::ZeroStale, Group::NumberedCommands),
+    (Fault::StaleHandled, Group::Replays),
+    (Fault::FailedNotSpent, Group::Replays),
+    (Fault::FirstFailedNotSpent, Group::NumberedCommands),
+    (Fault::TypeNotSpent, Group::NumberedCommands),
+    (Fault::SaveDropsNumber, Group::Histories),
+    (Fault::InsideFirst, Group::Histories),
+    (Fault::InsideOnPort0, Group::Histories),
+    (Fault::MarkOfInside, Group::Histories),
+    (Fault::SettingsOfInsideLost, Group::CutNumbered),
+    (Fault::NumberInNumber, Group::NumberedCommands),
+    (Fault::ReplyOfInnerType, Group::NumberedCommands),
+    (Fault::DamagedSpends, Group::Histories),
+    (Fault::DamagedEchoInside, Group::NumberedCommands),
+    (Fault::DamagedStale, Group::NumberedCommands),
+    (Fault::ShortAs3, Group::NumberedCommands),
+    (Fault::ShortEcho, Group::NumberedCommands),
+    (Fault::ShortSpends, Group::NumberedCommands),
+    (Fault::EchoOfNumber, Group::NumberedCommands),
+    (Fault::EchoOfType, Group::NumberedCommands),
+    (Fault::NoFieldAs4, Group::NumberedCommands),
+    (Fault::FieldsBeforeType, Group::NumberedCommands),
+    (Fault::TypeBeforeStale, Group::NumberedCommands),
+    (Fault::NumberedRefusedOnPort1, Group::NumberedCommands),
+    (Fault::UnnumberedUse, Group::UnnumberedCommands),
+    (Fault::UnnumberedSave, Group::UnnumberedCommands),
+    (Fault::UnnumberedLoad, Group::UnnumberedCommands),
+    (Fault::UnnumberedFactory, Group::UnnumberedCommands),
+    (Fault::Port1Refused, Group::UnnumberedCommands),
+    (Fault::RefusedWithoutEntry, Group::UnnumberedCommands),
+    (Fault::RefusedWhole, Group::UnnumberedCommands),
+    (Fault::NumberZeroAsNone, Group::UnnumberedCommands),
+    (Fault::ReportRefused, Group::UnnumberedCommands),
+    (Fault::PingRefused, Group::UnnumberedCommands),
+    (Fault::OtherFunctionsRefused, Group::UnnumberedCommands),
+    (Fault::SizeZeroRefused, Group::UnnumberedCommands),
+    (Fault::Error5Before3, Group::UnnumberedCommands),
+    (Fault::Error5After4, Group::UnnumberedCommands),
+    (Fault::OneRowInNumbered, Group::NumberedReplies),
+    (Fault::NoValueInNumbered, Group::NumberedReplies),
+    (Fault::NumberAsValue, Group::NumberedReplies),
+    (Fault::NumberWrittenBackwards, Group::WrittenNumbered),
+    (Fault::RoomBeforeNumbered, Group::WrittenNumbered),
+    (Fault::BytePastNumbered, Group::WrittenNumbered),
+    (Fault::PingAsSetting, Group::WrittenNumbered),
+    (Fault::WrappedNumbered, Group::WrittenNumbered),
+    (Fault::StartOnNumber, Group::Starts),
+    (Fault::FourEntriesRefused, Group::Pages),
+    (Fault::NumberOfOneByte, Group::Pages),
+    (Fault::NumberReadBackwards, Group::Pages),
+    (Fault::LastNumberNotRead, Group::Pages),
+    (Fault::WrappedNumberRead, Group::Pages),
+    (Fault::NumberNotWritten, Group::WrittenPages),
+    (Fault::NumberNotThere, Group::WrittenPages),
+    (Fault::BodyOfNumber, Group::Bodies),
 ];
 
 /// The checks that passed and failed.

@@ -147,7 +147,7 @@ fn field_copy(calls: &impl Calls, message: &[u8], k: usize, room: usize, ran: &m
 
 /// Every reply of one row, and every value in its second field; its row, and one that it does not have.
 pub fn all_replies(calls: &impl Calls, ran: &mut Ran) -> Outcome {
-    for kind in [0x00, 0x01, 0x02, 0x03, 0xA2, 0xFF] {
+    for kind in [0x00, 0x01, 0x02, 0x03, 0x7C, 0xA2, 0xFF] {
         for echo in 0..=255 {
             for error in 0..=255 {
                 reply(calls, &plain::message(kind, &[0x80, 2, echo, error]), 0, ran)?;

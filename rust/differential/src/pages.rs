@@ -7,7 +7,7 @@ use crate::records;
 use crate::singles::all_values;
 use ketphiroj::ffi::{FlatPage, FlatValues};
 use ketphiroj::{Refusal, Values};
-use plain::generate::{self, Rng};
+use plain::generate::{self, numbered, Rng};
 
 /// The test and the values of a page of any contents and length.
 pub fn read(calls: &impl Calls, page: &[u8], ran: &mut Ran) -> Outcome {
@@ -36,6 +36,7 @@ fn optional(flat: &FlatValues) -> Values {
         baud: flat.has_baud.then_some(flat.baud),
         accelerometer: flat.has_accelerometer.then_some(flat.accelerometer),
         gyroscope: flat.has_gyroscope.then_some(flat.gyroscope),
+        last_number: flat.has_last_number.then_some(flat.last_number),
     }
 }
 
@@ -52,6 +53,7 @@ pub fn read_all(calls: &impl Calls, rng: &mut Rng, ran: &mut Ran) -> Outcome {
     }
     for _ in 0..300_000 {
         read(calls, &generate::page(rng), ran)?;
+        read(calls, &numbered::page(rng), ran)?;
     }
     (0..200).try_for_each(|length| read(calls, &vec![0x01; length], ran))
 }
@@ -73,6 +75,7 @@ fn plain_writing(values: &FlatValues, page: &mut [u8]) -> u8 {
         baud: values.baud,
         accelerometer: values.accelerometer.map(byte),
         gyroscope: values.gyroscope.map(byte),
+        last_number: values.last_number,
     }));
     plain::number::DONE
 }
@@ -103,6 +106,8 @@ pub fn write_all(calls: &impl Calls, rng: &mut Rng, ran: &mut Ran) -> Outcome {
             accelerometer: generate::value(rng, 0x07),
             has_gyroscope: rng.chance(1, 2),
             gyroscope: generate::value(rng, 0x08),
+            has_last_number: rng.chance(1, 2),
+            last_number: numbered::kept(rng),
         };
         let length = if rng.chance(7, 8) { 64 } else { rng.below(130) };
         write_one(calls, values, length, ran)?;
@@ -112,9 +117,10 @@ pub fn write_all(calls: &impl Calls, rng: &mut Rng, ran: &mut Ran) -> Outcome {
 
 /// A body of the saved or the factory page, both of any contents and length, in a room of any length.
 pub fn copy_body(calls: &impl Calls, rng: &mut Rng, ran: &mut Ran) -> Outcome {
-    let saved = generate::page(rng);
-    let factory = if rng.chance(1, 2) { plain::factory_page().to_vec() } else { generate::page(rng) };
-    let code = generate::code(rng);
+    let any = |rng: &mut Rng| if rng.chance(1, 2) { generate::page(rng) } else { numbered::page(rng) };
+    let saved = any(rng);
+    let factory = if rng.chance(1, 2) { plain::factory_page().to_vec() } else { any(rng) };
+    let code = if rng.chance(1, 4) { 0x70 } else { generate::code(rng) };
     let length = if rng.chance(1, 8) { rng.below(80) } else { rng.below(8) };
     let mut rooms = [filled(length, 0x3D), filled(length, 0x3D), filled(length, 0x3D)];
     let expected = match plain::body(&saved, &factory, code) {

@@ -41,6 +41,8 @@ pub fn values(values: &plain::Values) -> FlatValues {
         accelerometer: values.accelerometer.map_or(0, u32::from),
         has_gyroscope: values.gyroscope.is_some(),
         gyroscope: values.gyroscope.map_or(0, u32::from),
+        has_last_number: values.last_number.is_some(),
+        last_number: values.last_number.unwrap_or(0),
     }
 }
 

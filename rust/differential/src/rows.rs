@@ -9,7 +9,7 @@ use ketphiroj::{Refusal, Reply};
 use plain::generate::{self, fields, Rng};
 
 /// Each row of a reply, numbers that it has no row for, and the wrapper's rows at once.
-fn rows(calls: &impl Calls, message: &[u8], ran: &mut Ran) -> Outcome {
+pub fn rows(calls: &impl Calls, message: &[u8], ran: &mut Ran) -> Outcome {
     let mut read = Vec::new();
     let refused = loop {
         let plain::Reply { number, kind, echo, error, value } = plain::read_reply(message, read.len());
@@ -108,6 +108,6 @@ fn built(calls: &impl Calls, rng: &mut Rng, ran: &mut Ran) -> Outcome {
         same("length of the payload", &length, &plain_length)?;
         same("payload", &room[..], &plain_room[..])?;
     }
-    let handled = plain::handle(&plain::message(kind, &room[..length]), plain::FACTORY, plain::Values::default());
+    let handled = plain::handle(0, &plain::message(kind, &room[..length]), plain::FACTORY, plain::Values::default());
     same("rows without error", &handled.rows.iter().filter(|row| row.error == 0).count(), &count)
 }

@@ -6,18 +6,22 @@ use crate::group::{Outcome, Ran};
 use crate::lists::hex;
 use crate::records;
 use ketphiroj::Board;
-use plain::generate::{self, fields, Rng};
+use plain::generate::{self, fields, numbered, Rng};
 
-/// One feed of a board of any contents, sound or not, with junk past the held bytes.
+/// One feed of a board of any contents, sound or not, with junk past the held bytes. One page in three mostly keeps a
+/// number.
 pub fn any(calls: &impl Calls, rng: &mut Rng, ran: &mut Ran) -> Outcome {
     let plain = generate::board(rng);
+    let page = if rng.chance(1, 3) { numbered::page(rng) } else { generate::page(rng) };
+    let last = plain::values(&page).and_then(|values| values.last_number);
     let pieces = rng.below(4);
     let mut chunk = match rng.below(4) {
         0 => fields::piece_with_fields(rng),
+        1 => numbered::numbered_piece(rng, last),
         _ => generate::stream(rng, pieces),
     };
     chunk.truncate(generate::chunk_length(rng));
-    let pair = Pair { board: records::board(&plain), plain, page: generate::page(rng) };
+    let pair = Pair { board: records::board(&plain), plain, page };
     let given = Feed { port: generate::port(rng), chunk: &chunk, room: generate::room(rng) };
     one(calls, &pair, &given, ran)
 }
@@ -71,29 +75,37 @@ pub fn starts(calls: &impl Calls, rng: &mut Rng, ran: &mut Ran) -> Outcome {
     }
     for _ in 0..200_000 {
         start(calls, &generate::page(rng), ran)?;
+        start(calls, &numbered::page(rng), ran)?;
     }
     (0..200).try_for_each(|length| start(calls, &vec![0xFF; length], ran))
 }
 
-/// The 280 allowed choices of values under the three codes.
+/// The 280 allowed choices of values under the settings' codes, without a number and with each of some.
 pub fn all_values() -> Vec<plain::Values> {
     let mut all = Vec::new();
-    for baud in std::iter::once(None).chain(generate::BAUDS.map(Some)) {
-        for accelerometer in std::iter::once(None).chain((1..=4).map(Some)) {
-            for gyroscope in std::iter::once(None).chain((1..=7).map(Some)) {
-                all.push(plain::Values { baud, accelerometer, gyroscope });
+    for last_number in std::iter::once(None).chain(numbered::ENDS.map(Some)) {
+        for baud in std::iter::once(None).chain(generate::BAUDS.map(Some)) {
+            for accelerometer in std::iter::once(None).chain((1..=4).map(Some)) {
+                for gyroscope in std::iter::once(None).chain((1..=7).map(Some)) {
+                    all.push(plain::Values { baud, accelerometer, gyroscope, last_number });
+                }
             }
         }
     }
     all
 }
 
-/// One message, fed whole to a board that holds nothing.
-pub fn command(calls: &impl Calls, rng: &mut Rng, kind: u8, payload: &[u8], ran: &mut Ran) -> Outcome {
-    let page = generate::sound_page(rng).to_vec();
+/// A board that holds nothing, with any allowed settings, on this page.
+pub fn holding_nothing(rng: &mut Rng, page: &[u8]) -> Pair {
     let ports = [plain::Port::fresh(), plain::Port::fresh()];
     let plain = plain::Board { ports, settings: generate::allowed_settings(rng) };
-    let pair = Pair { board: records::board(&plain), plain, page };
+    Pair { board: records::board(&plain), plain, page: page.to_vec() }
+}
+
+/// One message, fed whole to a board that holds nothing.
+pub fn command(calls: &impl Calls, rng: &mut Rng, kind: u8, payload: &[u8], ran: &mut Ran) -> Outcome {
+    let page = generate::sound_page(rng);
+    let pair = holding_nothing(rng, &page);
     let given = Feed { port: rng.below(2) as u8, chunk: &plain::message(kind, payload), room: Board::REPLY };
     one(calls, &pair, &given, ran)
 }

@@ -1,6 +1,6 @@
 //! The wrapper's calls under test.
 
-use crate::calls::FieldGiven;
+use crate::calls::{FieldGiven, NumberedGiven};
 use ketphiroj::{Board, Field, Outcome, Refusal, Reply, Values, PAGE};
 
 /// The wrapper's calls. An implementation changes some of them to plant a fault: the library's own calls are compared
@@ -31,6 +31,11 @@ pub trait Wrapper {
 
     fn wrapped_write_command(&self, code: u8, function: u8, value: u32, room: &mut [u8]) -> Result<usize, Refusal> {
         ketphiroj::write_command(code, function, value, room)
+    }
+
+    fn wrapped_write_numbered(&self, given: &NumberedGiven, room: &mut [u8]) -> Result<usize, Refusal> {
+        let NumberedGiven { number, code, function, value } = *given;
+        ketphiroj::write_numbered(number, code, function, value, room)
     }
 
     fn wrapped_append_field(&self, given: &FieldGiven, length: usize, room: &mut [u8]) -> Result<usize, Refusal> {

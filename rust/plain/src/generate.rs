@@ -1,9 +1,11 @@
 //! Test material from a seed: messages, damaged ones, streams, chunks, pages, boards and lists of feeds; and the
-//! shrinking of a failing list. [`fields`] has the commands of several fields, and the replies to them.
+//! shrinking of a failing list. [`fields`] has the commands of several fields, and the replies to them, [`numbered`]
+//! the numbered commands, the pages that keep a number, and histories of feeds and restarts.
 //!
 //! The same seed gives the same material on every machine.
 
 pub mod fields;
+pub mod numbered;
 
 use crate::message::payload_of;
 use crate::{feed, message, start, sums, write_page, Board, Port, Settings, Values};
@@ -553,13 +555,14 @@ pub fn room(rng: &mut Rng) -> usize {
     }
 }
 
-/// Allowed values under any of the three codes.
+/// Allowed values under any of the three settings' codes; no number.
 pub fn values(rng: &mut Rng) -> Values {
     let settings = allowed_settings(rng);
     Values {
         baud: rng.chance(1, 2).then_some(settings.baud),
         accelerometer: rng.chance(1, 2).then_some(settings.accelerometer),
         gyroscope: rng.chance(1, 2).then_some(settings.gyroscope),
+        last_number: None,
     }
 }
 
@@ -592,14 +595,19 @@ pub fn odd_page(rng: &mut Rng) -> [u8; 64] {
         entries.swap(a, b);
     }
     let gap = if rng.chance(1, 12) { rng.between(1, 3) } else { 0 };
+    page_of_entries(&entries, gap)
+}
+
+/// The contents and the bodies of these entries, with so many bytes FF between them.
+fn page_of_entries(entries: &[(u8, Vec<u8>)], gap: usize) -> [u8; 64] {
     let mut page = vec![entries.len() as u8];
     let mut offset = 1 + 3 * entries.len() + gap;
-    for (code, body) in &entries {
+    for (code, body) in entries {
         page.extend([*code, offset as u8, body.len() as u8]);
         offset += body.len();
     }
     page.extend(vec![0xFF; gap]);
-    for (_, body) in &entries {
+    for (_, body) in entries {
         page.extend(body);
     }
     page.resize(64, 0xFF);
@@ -612,17 +620,8 @@ pub fn page(rng: &mut Rng) -> Vec<u8> {
         0..=7 => sound_page(rng).to_vec(),
         8 | 9 => odd_page(rng).to_vec(),
         10..=12 => {
-            let mut page = sound_page(rng).to_vec();
-            for _ in 0..rng.between(1, 3) {
-                let at = if rng.chance(3, 4) { rng.below(17) } else { rng.below(64) };
-                page[at] = match rng.below(4) {
-                    0 => page[at].wrapping_add(1),
-                    1 => page[at].wrapping_sub(1),
-                    2 => rng.pick(&[0x00, 0x01, 0x02, 0x03, 0x04, 0x07, 0x08, 0x3C, 0x40, 0xFF]),
-                    _ => rng.byte(),
-                };
-            }
-            page
+            let page = sound_page(rng);
+            mutated(rng, page, 17).to_vec()
         }
         13 => {
             let mut page = rng.bytes(64);
@@ -630,16 +629,35 @@ pub fn page(rng: &mut Rng) -> Vec<u8> {
             page
         }
         _ => {
-            let length = match rng.below(4) {
-                0 => 63,
-                1 => 65,
-                2 => rng.pick(&[0, 1, 10, 32, 128]),
-                _ => rng.below(140),
-            };
+            let length = other_length(rng);
             let mut page = sound_page(rng).to_vec();
             page.resize(length, 0xFF);
             page
         }
+    }
+}
+
+/// A page with one to three other bytes, mostly among the first so many.
+fn mutated(rng: &mut Rng, mut page: [u8; 64], first: usize) -> [u8; 64] {
+    for _ in 0..rng.between(1, 3) {
+        let at = if rng.chance(3, 4) { rng.below(first) } else { rng.below(64) };
+        page[at] = match rng.below(4) {
+            0 => page[at].wrapping_add(1),
+            1 => page[at].wrapping_sub(1),
+            2 => rng.pick(&[0x00, 0x01, 0x02, 0x03, 0x04, 0x07, 0x08, 0x3C, 0x40, 0xFF]),
+            _ => rng.byte(),
+        };
+    }
+    page
+}
+
+/// The length of a page, mostly not 64.
+fn other_length(rng: &mut Rng) -> usize {
+    match rng.below(4) {
+        0 => 63,
+        1 => 65,
+        2 => rng.pick(&[0, 1, 10, 32, 128]),
+        _ => rng.below(140),
     }
 }
 

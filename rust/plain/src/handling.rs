@@ -1,7 +1,8 @@
-//! Handling one message (01-026 to 01-045), which may have several fields (02-02.2 to 02-02.4, 02-02.8).
+//! Handling one message (01-026 to 01-045), which may have several fields (02-02.2 to 02-02.4, 02-02.8) and a number
+//! (02-03.1 to 02-03.8, 02-03.11).
 
-use crate::message::{bytes_of, fields_of, kind_of, length_of, message, number_of, payload_of, sums_right, Part};
-use crate::page::Values;
+use crate::message::{bytes_of, fields_of, kind_of, message, number_of, payload_of, sums_right, Part};
+use crate::page::{Values, LAST_NUMBER};
 
 /// The working values.
 #[derive(Clone, Copy, Debug, PartialEq, Eq)]
@@ -83,38 +84,36 @@ impl Settings {
 /// 02-02.2: "A good message of type 01 or 02 may carry 1 to 16 fields."
 pub const MOST_FIELDS: usize = 16;
 
-/// The fields of a message of L + 6 bytes, or the error of one whose fields are not reached.
+/// 02-03.1: "The controller sends type 7C: a four-byte number, then a command's type and its fields."
+pub const NUMBERED: u8 = 0x7C;
+
+/// The fields of a command of this type and payload, or the error of one whose fields are not reached. The sums of its
+/// message are right.
 ///
 /// 01-026: "Errors, first that applies".
-pub fn fields_or_error(received: &[u8]) -> Result<Vec<Part<'_>>, u8> {
-    let kind = kind_of(received);
-
-    // "1 | sums wrong"
-    if !sums_right(received) {
-        return Err(1);
-    }
-
+fn fields_or_error(kind: u8, payload: &[u8]) -> Result<Vec<Part<'_>>, u8> {
     // "2 | type neither 01 nor 02"
     if kind != 0x01 && kind != 0x02 {
         return Err(2);
     }
 
     // "3 | L = 0"
-    if length_of(received) == 0 {
+    if payload.is_empty() {
         return Err(3);
     }
 
     // 02-02.8: "a payload that fields do not fill exactly, or more than 16 fields, gets one field with error 4, tested
     // after L = 0 and before any code; there L = 1 and unknown codes become 4."
-    match fields_of(payload_of(received)) {
+    match fields_of(payload) {
         Some(fields) if fields.len() <= MOST_FIELDS => Ok(fields),
         _ => Err(4),
     }
 }
 
-/// The error of one field of a message of type 01 or 02: the rest of 01-026's table, which a separate message with this
-/// field alone would come to.
-pub fn field_error(kind: u8, field: &Part) -> u8 {
+/// The error of one field of a command of type 01 or 02: the rest of 01-026's table, which a separate message with this
+/// field alone would come to. Where the command needs a number and has none, 02-03.11: "error 5 stands after 3 and
+/// before a field's own 4."
+fn field_error(kind: u8, field: &Part, number_missing: bool) -> u8 {
     let code = field.code;
 
     // "3 | [..] or the code is not one of this type's above"
@@ -131,6 +130,12 @@ pub fn field_error(kind: u8, field: &Part) -> u8 {
     let Some((function, value)) = field.data.split_first() else {
         return 4;
     };
+
+    // 02-03.8: "functions 1, 3, 4 and 5 without a number [..] are refused"
+    if number_missing && [1, 3, 4, 5].contains(function) {
+        return 5;
+    }
+
     let value_size = value_size(code).expect("a setting has a value");
     let right = match function {
         // "function 1 needs both;"
@@ -164,7 +169,7 @@ pub struct Handled {
     /// The reply's rows: one for each field, or the one of a message whose fields are not reached.
     pub rows: Vec<Row>,
     pub reply: Vec<u8>,
-    /// Whether a save was accepted, of any field.
+    /// Whether a save was accepted, of any field, or a number was fresh.
     pub saved: bool,
     /// The working values afterwards.
     pub settings: Settings,
@@ -172,28 +177,78 @@ pub struct Handled {
     pub values: Values,
 }
 
-/// Handles one message of L + 6 bytes, good or damaged, on the working values and the page's values.
-pub fn handle(received: &[u8], settings: Settings, values: Values) -> Handled {
+/// Handles one message of L + 6 bytes, good or damaged, that came on this port, on the working values and the page's
+/// values.
+pub fn handle(port: u8, received: &[u8], settings: Settings, values: Values) -> Handled {
     let kind = kind_of(received);
+    let payload = payload_of(received);
     let mut handled = Handled { rows: Vec::new(), reply: Vec::new(), saved: false, settings, values };
-    match fields_or_error(received) {
-        // 02-02.3: "It leaves the settings and page that separate messages of the same type, one for each field in
-        // order, would leave."
-        Ok(fields) => fields.iter().for_each(|field| handle_field(kind, field, &mut handled)),
-        Err(error) => {
-            // 01-043: "The echo is the first payload byte, or 0 if L = 0."
-            let echo = payload_of(received).first().copied().unwrap_or(0);
-            handled.rows.push(Row { echo, error, value: None });
-        }
+    if !sums_right(received) {
+        // "1 | sums wrong". 02-03.5: "a damaged message keeps document 01's echo."
+        not_reached(payload, 1, &mut handled);
+    } else if kind == NUMBERED {
+        handle_numbered(payload, &mut handled);
+    } else {
+        // 02-03.8: "Once the page has the entry, functions 1, 3, 4 and 5 without a number on port 0 are refused; port 1
+        // takes them".
+        let number_missing = port == 0 && values.last_number.is_some();
+        handle_command(kind, payload, number_missing, &mut handled);
     }
     handled.reply = reply_of(kind, &handled.rows);
     handled
 }
 
+/// Handles the payload of a good message of type 7C, of either port.
+fn handle_numbered(payload: &[u8], handled: &mut Handled) {
+    // 02-03.11: "in type 7C, L under 5 is error 4,". There is no code.
+    if payload.len() < 5 {
+        return not_reached(&[], 4, handled);
+    }
+    let (number, inner_kind, inner_fields) = (number_of(&payload[..4]), payload[4], &payload[5..]);
+
+    // "then a stale number error 5,"
+    if !fresh(number, &handled.values) {
+        return not_reached(inner_fields, 5, handled);
+    }
+
+    // 02-03.4: "A fresh number is written to the page, then the command inside is handled, with its own errors; the
+    // number is spent either way." 02-03.6: "a fresh number sets the feed's mark of a save."
+    handled.values = handled.values.with(LAST_NUMBER, number);
+    handled.saved = true;
+
+    // "then the inner type (2), then the rest".
+    handle_command(inner_kind, inner_fields, false, handled);
+}
+
+/// 02-03.3: "A number is fresh if it is larger than the kept one; with no entry, every number is."
+pub fn fresh(number: u32, values: &Values) -> bool {
+    match values.last_number {
+        Some(kept) => number > kept,
+        None => true,
+    }
+}
+
+/// Handles a command of this type and payload.
+fn handle_command(kind: u8, payload: &[u8], number_missing: bool, handled: &mut Handled) {
+    match fields_or_error(kind, payload) {
+        // 02-02.3: "It leaves the settings and page that separate messages of the same type, one for each field in
+        // order, would leave."
+        Ok(fields) => fields.iter().for_each(|field| handle_field(kind, field, number_missing, handled)),
+        Err(error) => not_reached(payload, error, handled),
+    }
+}
+
+/// The one row where the fields of this payload are not reached. 01-043: "The echo is the first payload byte, or 0 if
+/// L = 0." 02-03.5: "the first echo is the inner command's first code, 0 if it has none".
+fn not_reached(payload: &[u8], error: u8, handled: &mut Handled) {
+    let echo = payload.first().copied().unwrap_or(0);
+    handled.rows.push(Row { echo, error, value: None });
+}
+
 /// Handles one field, on the settings and the page's values that those before it left.
-fn handle_field(kind: u8, field: &Part, handled: &mut Handled) {
+fn handle_field(kind: u8, field: &Part, number_missing: bool, handled: &mut Handled) {
     let code = field.code;
-    let mut row = Row { echo: code, error: field_error(kind, field), value: None };
+    let mut row = Row { echo: code, error: field_error(kind, field, number_missing), value: None };
     // Only an accepted setting has a function. "Ping without both" (01-048).
     if row.error == 0 && kind == 0x02 {
         let working = handled.settings.value(code);
@@ -222,7 +277,8 @@ fn handle_field(kind: u8, field: &Part, handled: &mut Handled) {
 }
 
 /// 01-042: "Reply: the received type, and one field 80 with size 2: echo and error." 02-02.4: "The reply carries the
-/// separate replies' fields in that order."
+/// separate replies' fields in that order." 02-03.5: "The reply has type 7C and the inner command's rows, or one row
+/// where its fields are not reached".
 pub fn reply_of(kind: u8, rows: &[Row]) -> Vec<u8> {
     let mut payload = Vec::new();
     for row in rows {

@@ -1,11 +1,11 @@
 //! The board's protocol in plain Rust, and material to test with.
 //!
-//! This is a reading of the paper ("01", the board's protocol, line by line), with requests 01 and 02 of the change
+//! This is a reading of the paper ("01", the board's protocol, line by line), with requests 01 to 03 of the change
 //! requests ("02"), and not of the library. It is slow and obvious, in the papers' words and order; numbers such as
 //! 01-014 and 02-01.3 are those of the papers' sentences. READINGS.md says how each sentence is read that leaves a
-//! doubt, and which readings docs/DECISIONS.md settles. [`read_page`], [`body`] and [`append_field`] are no calls of
-//! the papers': which numbers they give, and in which order, is decided there. [`generate`] makes messages, streams,
-//! pages, boards and lists of feeds from a seed.
+//! doubt, and which readings docs/DECISIONS.md settles. [`read_page`], [`body`], [`append_field`] and
+//! [`write_numbered`] are no calls of the papers': which numbers they give, and in which order, is decided there.
+//! [`generate`] makes messages, streams, pages, boards and lists of feeds from a seed.
 //!
 //! The paper, section by section:
 //!
@@ -37,7 +37,7 @@ pub mod reckoning;
 pub mod scan;
 pub mod writers;
 
-pub use handling::{allowed, handle, reply_of, value_size, Handled, Row, Settings, FACTORY};
+pub use handling::{allowed, fresh, handle, reply_of, value_size, Handled, Row, Settings, FACTORY};
 pub use listing::listing;
 pub use message::{check_message, fields_of, message, sums, sums_right, Part, Sums};
 pub use page::{body, check_page, factory_page, read_page, values, write_page, Values};
@@ -45,4 +45,4 @@ pub use port::{feed, start, Board, Fed, Port};
 pub use readers::{field_data, read_field, read_reply, Field, Reply};
 pub use reckoning::{Reckoned, Reckoning};
 pub use scan::{scan, Event};
-pub use writers::{append_field, write_command, write_data, write_message};
+pub use writers::{append_field, write_command, write_data, write_message, write_numbered};

@@ -1,4 +1,4 @@
-//! The start-up page (01-049 to 01-056).
+//! The start-up page (01-049 to 01-056), with the last number accepted as entry 70 (02-03.2).
 
 use crate::handling::{allowed, value_size, ACCELEROMETER, BAUD, FACTORY, GYROSCOPE};
 use crate::message::{bytes_of, number_of};
@@ -16,38 +16,55 @@ pub struct Values {
     pub accelerometer: Option<u8>,
     /// Under code 08.
     pub gyroscope: Option<u8>,
+    /// Under code 70. 02-03.2: "the last number accepted".
+    pub last_number: Option<u32>,
 }
 
-/// 01-052: "Codes ascend."
-pub const CODES: [u8; 3] = [BAUD, ACCELEROMETER, GYROSCOPE];
+/// 02-03.2: "The page keeps the last number accepted as entry 70". It is no setting.
+pub const LAST_NUMBER: u8 = 0x70;
+
+/// The codes that an entry can have. 01-052: "Codes ascend."
+pub const CODES: [u8; 4] = [BAUD, ACCELEROMETER, GYROSCOPE, LAST_NUMBER];
+
+/// How many bytes the body under a code has: a setting's value size. 02-03.2: "entry 70, four bytes". None for other
+/// codes.
+fn body_size(code: u8) -> Option<usize> {
+    match code {
+        LAST_NUMBER => Some(4),
+        _ => value_size(code),
+    }
+}
 
 impl Values {
-    /// The value under code 01, 07 or 08, if there is one.
+    /// The value under code 01, 07, 08 or 70, if there is one.
     pub fn value(&self, code: u8) -> Option<u32> {
         match code {
             BAUD => self.baud,
             ACCELEROMETER => self.accelerometer.map(u32::from),
             GYROSCOPE => self.gyroscope.map(u32::from),
-            _ => panic!("no setting has code {code:02X}"),
+            LAST_NUMBER => self.last_number,
+            _ => panic!("no entry has code {code:02X}"),
         }
     }
 
-    /// 01-055: "A save puts its value in, keeps the other entries"
+    /// 01-055: "A save puts its value in, keeps the other entries". A number that is written is put in the same way.
     pub fn with(mut self, code: u8, value: u32) -> Values {
         match code {
             BAUD => self.baud = Some(value),
             ACCELEROMETER => self.accelerometer = Some(u8::try_from(value).expect("a range is one byte")),
             GYROSCOPE => self.gyroscope = Some(u8::try_from(value).expect("a range is one byte")),
-            _ => panic!("no setting has code {code:02X}"),
+            LAST_NUMBER => self.last_number = Some(value),
+            _ => panic!("no entry has code {code:02X}"),
         }
         self
     }
 }
 
-/// Whether each value that is there is allowed.
+/// Whether each value that is there is allowed. 02-03.2: entry 70 has "four bytes of any value".
 fn allowed_values(values: &Values) -> bool {
     CODES.iter().all(|&code| match values.value(code) {
         None => true,
+        Some(_) if code == LAST_NUMBER => true,
         Some(value) => allowed(code, value),
     })
 }
@@ -58,7 +75,7 @@ pub fn write_page(values: &Values) -> [u8; PAGE] {
     // "Codes ascend."
     for code in CODES {
         if let Some(value) = values.value(code) {
-            let size = value_size(code).expect("a setting has a value");
+            let size = body_size(code).expect("an entry has a body");
             entries.push((code, bytes_of(value, size)));
         }
     }
@@ -69,7 +86,7 @@ pub fn write_page(values: &Values) -> [u8; PAGE] {
         return page;
     }
 
-    // "Byte 0: the number of entries, 1 to 3."
+    // "Byte 0: the number of entries, 1 to 3." 02-03.2: "so up to four entries".
     page[0] = entries.len() as u8;
     let mut place = 1;
     // "Then for each entry code, offset, length;"
@@ -89,12 +106,13 @@ pub fn write_page(values: &Values) -> [u8; PAGE] {
     page
 }
 
-/// 01-056: "the factory page": the writing of the factory values.
+/// 01-056: "the factory page": the writing of the factory values. No number is among them.
 pub fn factory_page() -> [u8; PAGE] {
     write_page(&Values {
         baud: Some(FACTORY.baud),
         accelerometer: Some(FACTORY.accelerometer),
         gyroscope: Some(FACTORY.gyroscope),
+        last_number: None,
     })
 }
 
@@ -109,7 +127,7 @@ fn values_behind(page: &[u8]) -> Option<Values> {
     let mut place = 1 + 3 * count;
     for entry in 0..count {
         let code = page[1 + 3 * entry];
-        let size = value_size(code)?;
+        let size = body_size(code)?;
         values = values.with(code, number_of(&page[place..place + size]));
         place += size;
     }
@@ -119,7 +137,7 @@ fn values_behind(page: &[u8]) -> Option<Values> {
 /// The values of a blank or sound page; nothing for another one.
 ///
 /// 01-053: "Blank: 64 bytes FF, no entry." 01-054: "Sound: blank, or exactly the writing of some allowed values under
-/// codes 01, 07, 08."
+/// codes 01, 07, 08", and since 02-03.2 under 70.
 pub fn values(page: &[u8]) -> Option<Values> {
     if page.len() != PAGE {
         return None;

@@ -1,4 +1,4 @@
-//! Ports, the board, starting and feeding (01-013 to 01-025, 01-056, 01-084 to 01-088; 02-01.3, 02-02.5).
+//! Ports, the board, starting and feeding (01-013 to 01-025, 01-056, 01-084 to 01-088; 02-01.3, 02-02.5, 02-03.6).
 
 use crate::handling::{handle, Settings, ACCELEROMETER, BAUD, FACTORY, GYROSCOPE};
 use crate::message::{length_of, number_of, sums_right};
@@ -142,7 +142,7 @@ pub fn feed(port: u8, board: &Board, chunk: &[u8], room: &mut [u8], page: &mut [
             // "and stops at the first reported message"
             Left::Good(whole) => {
                 let message: Vec<u8> = held.drain(..whole).collect();
-                let (saved, settings) = report(&message, board.settings, room, page);
+                let (saved, settings) = report(port, &message, board.settings, room, page);
                 let board = Board { settings, ..with_held(board, port, &held) };
                 return Fed { number: number::DONE, taken, skipped, saved, board };
             }
@@ -150,7 +150,7 @@ pub fn feed(port: u8, board: &Board, chunk: &[u8], room: &mut [u8], page: &mut [
                 let message: Vec<u8> = held[..whole].to_vec();
                 held.remove(0);
                 skipped += 1;
-                let (saved, settings) = report(&message, board.settings, room, page);
+                let (saved, settings) = report(port, &message, board.settings, room, page);
                 let board = Board { settings, ..with_held(board, port, &held) };
                 return Fed { number: number::DONE, taken, skipped, saved, board };
             }
@@ -168,14 +168,14 @@ fn with_held(board: &Board, port: u8, held: &[u8]) -> Board {
     board
 }
 
-/// Handles the message, writes its reply and, where a save was accepted, the page. Gives the save mark and the
-/// settings.
+/// Handles the message that came on a port, writes its reply and, where a save was accepted or a number was fresh, the
+/// page. Gives the save mark and the settings.
 ///
 /// 01-088: "A write to a room touches only the message's own bytes, from the room's front; a save writes the 64 bytes
-/// of the page."
-fn report(message: &[u8], settings: Settings, room: &mut [u8], page: &mut [u8]) -> (bool, Settings) {
+/// of the page." 02-03.9: "The page now changes on accepted saves and on fresh numbers".
+fn report(port: u8, message: &[u8], settings: Settings, room: &mut [u8], page: &mut [u8]) -> (bool, Settings) {
     let values = values(page).expect("the page of an accepted feed is blank or sound");
-    let handled = handle(message, settings, values);
+    let handled = handle(port, message, settings, values);
     room[..handled.reply.len()].copy_from_slice(&handled.reply);
     if handled.saved {
         // "A save puts its value in, keeps the other entries, and writes the page anew."

@@ -1,6 +1,6 @@
-//! The reply reader (01-046; 02-02.7) and the data reader (01-089 to 01-091).
+//! The reply reader (01-046; 02-02.7, 02-03.6) and the data reader (01-089 to 01-091).
 
-use crate::handling::{allowed, value_size, Row, ACCELEROMETER, BAUD, GYROSCOPE};
+use crate::handling::{allowed, value_size, Row, ACCELEROMETER, BAUD, GYROSCOPE, NUMBERED};
 use crate::message::{check_message, fields_of, kind_of, number_of, payload_of, Part};
 use crate::number;
 
@@ -35,9 +35,10 @@ pub fn read_reply(message: &[u8], row: usize) -> Reply {
 
 /// The rows of a reply of this type; nothing where it is none.
 ///
-/// 02-02.7: "The reply reader takes 1 to 16 of these rows [..], several only in types 01 and 02".
+/// 02-02.7: "The reply reader takes 1 to 16 of these rows [..], several only in types 01 and 02". 02-03.6: "The reply
+/// reader takes 7C rows as type 02's".
 fn rows_of(kind: u8, payload: &[u8]) -> Option<Vec<Row>> {
-    let most = if kind == 0x01 || kind == 0x02 { 16 } else { 1 };
+    let most = if [0x01, 0x02, NUMBERED].contains(&kind) { 16 } else { 1 };
     let fields = fields_of(payload)?;
     let mut rows = Vec::new();
     let mut rest = &fields[..];
@@ -55,19 +56,20 @@ fn rows_of(kind: u8, payload: &[u8]) -> Option<Vec<Row>> {
 }
 
 /// "The reply reader takes a field 80 of size 2 with an error of the table above, as the table stands at the time, and
-/// nothing after it;"
+/// nothing after it;" 02-03.6: "and error 5".
 fn row_of(field: &Part) -> Option<Row> {
     match *field.data {
-        [echo, error @ 0..=4] if field.code == 0x80 => Some(Row { echo, error, value: None }),
+        [echo, error @ 0..=5] if field.code == 0x80 => Some(Row { echo, error, value: None }),
         _ => None,
     }
 }
 
 /// "or, with type 02 and error 0, one more field whose code is the echo (01, 07 or 08), with its value size and an
-/// allowed value."
+/// allowed value." 02-03.6: "7C rows as type 02's".
 fn value_of(kind: u8, row: &Row, field: &Part) -> Option<u32> {
     let echo = row.echo;
-    if kind != 0x02 || row.error != 0 {
+    let reports = kind == 0x02 || kind == NUMBERED;
+    if !reports || row.error != 0 {
         return None;
     }
     if ![BAUD, ACCELEROMETER, GYROSCOPE].contains(&echo) || field.code != echo {

@@ -1,4 +1,4 @@
-//! The plain reckoning (01-057 to 01-068; 02-02.5, 02-02.6).
+//! The plain reckoning (01-057 to 01-068; 02-02.5, 02-02.6, 02-03.9), with restarts (02-03.10).
 
 use crate::handling::{handle, Settings, ACCELEROMETER, BAUD, FACTORY, GYROSCOPE};
 use crate::number;
@@ -106,9 +106,10 @@ impl Reckoning {
             let found: Vec<(usize, usize)> = scan(&all).iter().filter_map(Event::message).collect();
             if found.len() > stream.n {
                 // "Message n + 1 is handled as above on the values kept; its reply and save mark are the feed's, the
-                // number is 0, and n grows by one." 02-02.6: "Demand 3 handles such a message as one."
+                // number is 0, and n grows by one." 02-02.6: "Demand 3 handles such a message as one." 02-03.9: "demand
+                // 3 stands with this handling."
                 let (place, length) = found[stream.n];
-                let handled = handle(&all[place..place + length], self.settings, self.values);
+                let handled = handle(port, &all[place..place + length], self.settings, self.values);
                 self.settings = handled.settings;
                 self.values = handled.values;
                 stream.taken = all;
@@ -126,6 +127,12 @@ impl Reckoning {
         stream.last = number::USED_UP;
         let skipped = stream.standing().skipped - skipped_before;
         Reckoned { number: number::USED_UP, taken: chunk.len(), skipped, saved: false, reply: Vec::new() }
+    }
+
+    /// A restart, of which 02-03.10 has "any history of feeds and restarts over one page": the board starts anew on the
+    /// page as it stands, and nothing but the page is kept.
+    pub fn restart(&mut self) {
+        *self = Reckoning::new(&self.page());
     }
 
     pub fn settings(&self) -> Settings {

@@ -1,10 +1,10 @@
-//! The plain writer (01-084), the command writer (01-047, 01-048), the writer of one field of a command with several
-//! (02-02.1) and the data writer (01-092).
+//! The plain writer (01-084), the command writer (01-047, 01-048), the writer of numbered commands (02-03.1), the writer
+//! of one field of a command with several (02-02.1) and the data writer (01-092).
 //!
 //! 01-086: "A writer answers its number and the message's length, 0 where refused." 01-088: "A write to a room touches
 //! only the message's own bytes, from the room's front".
 
-use crate::handling::{allowed, codes_of, value_size, PING};
+use crate::handling::{allowed, codes_of, value_size, NUMBERED, PING};
 use crate::message::{bytes_of, message};
 use crate::number;
 
@@ -49,10 +49,28 @@ fn command_field(kind: u8, code: u8, function: u8, value: u32) -> Option<Vec<u8>
 
 /// 01-047: "The command writer is given a code, a function and a value." 01-084: "the command writer 28, 18".
 pub fn write_command(code: u8, function: u8, value: u32, room: &mut [u8]) -> (u8, usize) {
-    let kind = if code == PING { 0x01 } else { 0x02 };
+    let kind = kind_with(code);
     match command_field(kind, code, function, value) {
         Some(field) => put(&message(kind, &field), room),
         // "28 | command to be written is not one the board accepts"
+        None => (number::COMMAND, 0),
+    }
+}
+
+/// The type of the command that is written with this code.
+fn kind_with(code: u8) -> u8 {
+    match code {
+        PING => 0x01,
+        _ => 0x02,
+    }
+}
+
+/// A numbered command. 02-03.1: "type 7C: a four-byte number, then a command's type and its fields", here the one field
+/// that the command writer writes. It is no call of the papers'; its numbers are the command writer's, 28 and then 18.
+pub fn write_numbered(number: u32, code: u8, function: u8, value: u32, room: &mut [u8]) -> (u8, usize) {
+    let kind = kind_with(code);
+    match command_field(kind, code, function, value) {
+        Some(field) => put(&message(NUMBERED, &[bytes_of(number, 4), vec![kind], field].concat()), room),
         None => (number::COMMAND, 0),
     }
 }

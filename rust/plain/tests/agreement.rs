@@ -6,7 +6,7 @@
 mod common;
 
 use common::Both;
-use plain::generate::{self, fields, Behind, Call, Rng};
+use plain::generate::{self, fields, numbered, Behind, Call, Rng};
 use plain::*;
 
 fn setting(name: &str, otherwise: u64) -> u64 {
@@ -133,7 +133,7 @@ fn in_one_row(port: u8, board: &Board, chunk: &[u8], room: &mut [u8], page: &mut
             end = (place + length).max(record.held);
             fed.number = 0;
             fed.taken = end - record.held;
-            let handled = handle(&row[place..place + length], board.settings, values(page).unwrap());
+            let handled = handle(port, &row[place..place + length], board.settings, values(page).unwrap());
             fed.saved = handled.saved;
             fed.board.settings = handled.settings;
             room[..handled.reply.len()].copy_from_slice(&handled.reply);
@@ -148,14 +148,18 @@ fn in_one_row(port: u8, board: &Board, chunk: &[u8], room: &mut [u8], page: &mut
     fed
 }
 
-/// A beginning of a stream, or of a message of several fields.
-fn any_chunk(rng: &mut Rng, pieces: usize) -> Vec<u8> {
-    let mut chunk = match rng.below(3) {
+/// A page, and a chunk for it: a beginning of a stream, of a message of several fields, or of a numbered command.
+fn page_and_chunk(rng: &mut Rng) -> (Vec<u8>, Vec<u8>) {
+    let pieces = rng.below(4);
+    let page = if rng.chance(1, 2) { generate::page(rng) } else { numbered::page(rng) };
+    let last = values(&page).and_then(|values| values.last_number);
+    let mut chunk = match rng.below(4) {
         0 => fields::piece_with_fields(rng),
+        1 => numbered::numbered_piece(rng, last),
         _ => generate::stream(rng, pieces),
     };
     chunk.truncate(generate::chunk_length(rng));
-    chunk
+    (page, chunk)
 }
 
 #[test]
@@ -165,10 +169,8 @@ fn boards_of_any_contents() {
     for _ in 0..setting("FEEDS", 400_000) {
         let port = generate::port(&mut rng);
         let board = generate::board(&mut rng);
-        let pieces = rng.below(4);
-        let chunk = any_chunk(&mut rng, pieces);
+        let (mut page, chunk) = page_and_chunk(&mut rng);
         let mut room = vec![0x77; generate::room(&mut rng)];
-        let mut page = generate::page(&mut rng);
         let (given_room, given_page) = (room.clone(), page.clone());
         let fed = feed(port, &board, &chunk, &mut room, &mut page);
         numbers[usize::from(fed.number)] += 1;

@@ -137,7 +137,7 @@ fn fields_not_reached() {
     assert_eq!((answer.number, answer.taken, answer.skipped, answer.saved), (0, bytes.len(), 1, false));
     assert_eq!(answer.reply, message(0x02, &hex("80020701")));
     assert_eq!(both.board.settings, FACTORY);
-    for kind in [0x00, 0x03, 0x7C, 0x80, 0xA2, 0xFF] {
+    for kind in [0x00, 0x03, 0x7B, 0x80, 0xA2, 0xFF] {
         let answer = fed(&mut Both::blank(), &message(kind, &payload));
         assert_eq!((answer.reply, answer.saved), (message(kind, &hex("80020702")), false));
     }
@@ -243,7 +243,7 @@ fn longest_reply() {
     for _ in 0..50_000 {
         let received = if rng.chance(1, 2) { fields::several(&mut rng) } else { generate::piece(&mut rng) };
         if check_message(&received) == 0 {
-            let handled = handle(&received, generate::allowed_settings(&mut rng), generate::values(&mut rng));
+            let handled = handle(0, &received, generate::allowed_settings(&mut rng), generate::values(&mut rng));
             assert!((1..=16).contains(&handled.rows.len()) && handled.reply.len() <= 166);
         }
     }

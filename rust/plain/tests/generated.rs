@@ -3,7 +3,7 @@
 mod common;
 
 use common::Both;
-use plain::generate::{self, fields, Behind, Call, Rng};
+use plain::generate::{self, fields, numbered, Behind, Call, Rng, Step};
 use plain::*;
 use std::collections::BTreeSet;
 
@@ -34,7 +34,7 @@ fn cut_and_joined() {
 
 /// The error in the first row of the reply.
 fn first_error(received: &[u8]) -> u8 {
-    handle(received, FACTORY, Values::default()).rows[0].error
+    handle(0, received, FACTORY, Values::default()).rows[0].error
 }
 
 /// All lengths, types, errors, and each function under each code, accepted, come in the messages.
@@ -84,7 +84,7 @@ fn several_fields_reach_everything() {
         assert_eq!(check_message(&received), 0);
         let payload = &received[4..received.len() - 2];
         counts.insert((received[2].min(3), fields_of(payload).map(|fields| fields.len())));
-        let handled = handle(&received, FACTORY, Values::default());
+        let handled = handle(0, &received, FACTORY, Values::default());
         saved += usize::from(handled.saved);
         for (place, row) in handled.rows.iter().enumerate() {
             errors.insert((received[2].min(3), place, row.error, row.value.is_some()));
@@ -103,23 +103,24 @@ fn several_fields_reach_everything() {
     assert!(saved > 10_000, "{saved}");
 }
 
-/// Of replies: each count of rows up to 16 is read in types 01 and 02, and each is refused where something is wrong.
+/// Of replies: each count of rows up to 16 is read in types 01, 02 and 7C, and each is refused where something is wrong.
 #[test]
 fn replies_of_rows_reach_everything() {
     let mut rng = Rng::new(8);
     let mut read = BTreeSet::new();
     let mut refused = BTreeSet::new();
-    for _ in 0..200_000 {
-        let reply = fields::reply_of_rows(&mut rng);
+    for turn in 0..300_000 {
+        let reply = if turn % 3 == 0 { fields::reply_of_kind(&mut rng, 0x7C) } else { fields::reply_of_rows(&mut rng) };
+        let kind = if reply[2] == 0x7C { 0x7C } else { reply[2].min(3) };
         let rows = (0..).take_while(|&row| read_reply(&reply, row).number == 0).count();
         let fields = fields_of(&reply[4..reply.len() - 2]);
         if rows == 0 {
-            refused.insert((reply[2].min(3), fields.map(|fields| fields.len())));
+            refused.insert((kind, fields.map(|fields| fields.len())));
         } else {
-            read.insert((reply[2].min(3), rows));
+            read.insert((kind, rows));
         }
     }
-    for kind in [0x01, 0x02] {
+    for kind in [0x01, 0x02, 0x7C] {
         assert!((1..=16).all(|rows| read.contains(&(kind, rows))));
         assert!((0..=18).all(|fields| refused.contains(&(kind, Some(fields)))) && refused.contains(&(kind, None)));
     }
@@ -206,6 +207,76 @@ fn lists_reach_everything() {
     assert!(errors.iter().all(|&count| count > 500), "{errors:?}");
     assert!(saves > 400 && from_held > 400 && reports > 400, "{saves} {from_held} {reports}");
     assert!(most_held > 255, "{most_held}");
+}
+
+/// What came in histories: of each port, the type of each reply and the error in its first row; how many restarts, fresh
+/// numbers, and stale ones behind a restart.
+#[derive(Default)]
+struct Reached {
+    rows: BTreeSet<(u8, u8, u8)>,
+    restarts: usize,
+    fresh: usize,
+    stale_after_restart: usize,
+}
+
+impl Reached {
+    fn run(&mut self, mut page: [u8; 64], list: &[Step]) {
+        let (_, mut board) = start(&page);
+        let mut restarted = false;
+        for step in list {
+            let Step::Feed(call) = step else {
+                board = start(&page).1;
+                self.restarts += 1;
+                restarted = true;
+                continue;
+            };
+            let mut room = vec![0; call.room];
+            let fed = feed(call.port, &board, &call.chunk, &mut room, &mut page);
+            board = fed.board;
+            if fed.number == 0 {
+                self.rows.insert((call.port, room[2], room[7]));
+                self.fresh += usize::from(fed.saved && room[2] == 0x7C);
+                self.stale_after_restart += usize::from(restarted && room[2] == 0x7C && room[7] == 5);
+            }
+        }
+    }
+}
+
+/// Histories reach each error of a numbered command on each port, what is refused without a number on port 0 and taken
+/// on port 1, and stale numbers behind restarts.
+#[test]
+fn histories_reach_everything() {
+    let mut rng = Rng::new(10);
+    let mut reached = Reached::default();
+    for _ in 0..3000 {
+        let page = numbered::sound_page(&mut rng);
+        let list = numbered::history(&mut rng, &page, 8);
+        reached.run(page, &list);
+    }
+    for port in [0, 1] {
+        assert!((0..=5).all(|error| reached.rows.contains(&(port, 0x7C, error))), "{:?}", reached.rows);
+        assert!([0, 1, 3, 4].iter().all(|&error| reached.rows.contains(&(port, 0x02, error))), "{:?}", reached.rows);
+    }
+    assert!(reached.rows.contains(&(0, 0x02, 5)) && !reached.rows.contains(&(1, 0x02, 5)));
+    let Reached { restarts, fresh, stale_after_restart, .. } = reached;
+    assert!(restarts > 2000 && fresh > 2000 && stale_after_restart > 1000, "{restarts} {fresh} {stale_after_restart}");
+}
+
+/// Of pages with a number: those that are refused differ from sound ones in each way.
+#[test]
+fn pages_with_numbers() {
+    let mut rng = Rng::new(11);
+    let mut counts = BTreeSet::new();
+    let (mut sound, mut odd) = (0, 0);
+    for _ in 0..20_000 {
+        let page = numbered::sound_page(&mut rng);
+        assert_eq!(check_page(&page), 0);
+        sound += usize::from(values(&page).unwrap().last_number.is_some());
+        counts.insert(page[0]);
+        odd += usize::from(check_page(&numbered::odd_page(&mut rng)) == 20);
+    }
+    assert_eq!(counts, BTreeSet::from([1, 2, 3, 4, 0xFF]));
+    assert!(sound > 15_000 && (5_000..19_000).contains(&odd), "{sound} {odd}");
 }
 
 /// A made-up fault: after a save on port 1, a report on port 0.

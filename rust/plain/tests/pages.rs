@@ -3,22 +3,42 @@
 mod common;
 
 use common::page_of;
-use plain::generate::{self, Rng, BAUDS};
+use plain::generate::{self, numbered, Rng, BAUDS};
 use plain::*;
 
-/// The writings of all allowed values: 7 times 5 times 8.
+/// The writings of all allowed values without a number: 7 times 5 times 8.
 fn writings() -> Vec<(Values, [u8; 64])> {
     let bauds = [None].into_iter().chain(BAUDS.map(Some));
     let mut all = Vec::new();
     for baud in bauds {
         for accelerometer in [None, Some(1), Some(2), Some(3), Some(4)] {
             for gyroscope in [None, Some(1), Some(2), Some(3), Some(4), Some(5), Some(6), Some(7)] {
-                let values = Values { baud, accelerometer, gyroscope };
+                let values = Values { baud, accelerometer, gyroscope, last_number: None };
                 all.push((values, write_page(&values)));
             }
         }
     }
     all
+}
+
+/// The values of which a page is the writing, searched for among all allowed ones: without a number, or with the one
+/// that stands behind the bodies of the others.
+fn searched(all: &[(Values, [u8; 64])], page: &[u8]) -> Option<Values> {
+    if page.len() != 64 {
+        return None;
+    }
+    if let Some((values, _)) = all.iter().find(|(_, writing)| writing[..] == *page) {
+        return Some(*values);
+    }
+    let with_number = |values: &Values| {
+        let sizes = [values.baud.map(|_| 4), values.accelerometer.map(|_| 1), values.gyroscope.map(|_| 1), Some(4)];
+        let entries = sizes.iter().flatten().count();
+        let end = 1 + 3 * entries + sizes.iter().flatten().sum::<usize>();
+        let number = u32::from_be_bytes(page[end - 4..end].try_into().unwrap());
+        let values = Values { last_number: Some(number), ..*values };
+        (usize::from(page[0]) == entries && write_page(&values)[..] == *page).then_some(values)
+    };
+    all.iter().find_map(|(values, _)| with_number(values))
 }
 
 /// "Sound: blank, or exactly the writing of some allowed values": read and compared, and searched for among all.
@@ -40,19 +60,62 @@ fn sound_is_a_writing() {
     }
     let mut rng = Rng::new(64);
     let mut numbers = [0; 32];
-    for _ in 0..60_000 {
-        let page = generate::page(&mut rng);
-        let found = all.iter().find(|(_, writing)| writing[..] == page[..]);
+    for turn in 0..60_000 {
+        let page = if turn % 2 == 0 { generate::page(&mut rng) } else { numbered::page(&mut rng) };
+        let found = searched(&all, &page);
         let expected = match found {
             _ if page.len() != 64 => 19,
             Some(_) => 0,
             None => 20,
         };
         assert_eq!(check_page(&page), expected, "{page:02X?}");
-        assert_eq!(values(&page), found.map(|(values, _)| *values));
+        assert_eq!(values(&page), found);
         numbers[usize::from(expected)] += 1;
     }
     assert!([0, 19, 20].iter().all(|&number| numbers[number] > 1000), "{numbers:?}");
+}
+
+/// 02-03.2: "entry 70, four bytes of any value, so up to four entries." It stands last: "Codes ascend."
+#[test]
+fn numbers() {
+    for (text, expected) in [
+        ("01 700404 00000000", 0),
+        ("01 700404 FFFFFFFF", 0),
+        ("01 700404 A5A57C70", 0),
+        ("02 010704 700B04 0001C200 00000001", 0),
+        ("02 070701 700804 02 00000001", 0),
+        ("03 070A01 080B01 700C04 02 03 00000001", 0),
+        ("04 010D04 071101 081201 701304 0001C200 02 03 00000001", 0),
+        ("04 010D04 071101 081201 701304 0001C200 05 03 00000001", 20), // a range that is not allowed
+        ("04 010D04 071101 081201 701304 0000E100 02 03 00000001", 20), // 57600
+        ("01 700401 07", 20),                                           // one byte
+        ("01 700403 000007", 20),                                       // three bytes
+        ("01 700405 0000000007", 20),                                   // five bytes
+        ("01 700400", 20),                                              // none
+        ("01 700504 FF 00000007", 20),                                  // not close together
+        ("01 700404 00000007 00", 20),                                  // not FF to the end
+        ("01 710404 00000007", 20),                                     // another code
+        ("01 7C0404 00000007", 20),                                     // the type is no code
+        ("02 700704 010B04 00000007 0001C200", 20),                     // codes that do not ascend
+        ("02 700704 700B04 00000007 00000008", 20),                     // twice
+        ("05 011004 071401 081501 701604 701A04 0001C200 02 03 00000001 00000002", 20),
+        ("03 010D04 071101 081201 701304 0001C200 02 03 00000001", 20), // a wrong count
+    ] {
+        let page = page_of(text);
+        assert_eq!(check_page(&page), expected, "{text}");
+        assert_eq!(start(&page).0, expected, "{text}");
+        assert_eq!(read_page(&page).1.last_number.is_some(), expected == 0, "{text}");
+        assert_eq!(body(&page, &factory_page(), 0x70).1.len(), if expected == 0 { 4 } else { 0 }, "{text}");
+    }
+    let page = page_of("04 010D04 071101 081201 701304 000E1000 04 07 01020304");
+    let all = Values { baud: Some(921600), accelerometer: Some(4), gyroscope: Some(7), last_number: Some(0x01020304) };
+    assert_eq!(read_page(&page), (0, all));
+    assert_eq!(write_page(&all)[..], page);
+    assert_eq!(start(&page).1.settings, Settings { baud: 921600, accelerometer: 4, gyroscope: 7 });
+    assert_eq!(body(&page, &factory_page(), 0x70), (0, &[1, 2, 3, 4][..]));
+    // "the factory page has none", and a page without the entry has no number.
+    assert_eq!(body(&factory_page(), &factory_page(), 0x70), (0, &[][..]));
+    assert_eq!(read_page(&factory_page()).1.last_number, None);
 }
 
 #[test]

@@ -31,7 +31,7 @@ fn command_writer() {
                     None => assert_eq!(answer, (28, 0)),
                     Some(payload) => {
                         let written = message(if code == 0x02 { 0x01 } else { 0x02 }, &payload);
-                        assert_eq!(handle(&written, FACTORY, Values::default()).rows[0].error, 0);
+                        assert_eq!(handle(0, &written, FACTORY, Values::default()).rows[0].error, 0);
                         if length < written.len() {
                             assert_eq!(answer, (18, 0));
                         } else {
@@ -78,7 +78,7 @@ fn field_writer() {
                         let end = length + field.len();
                         assert_eq!(answer, (0, end));
                         expected_room[length..end].copy_from_slice(&field);
-                        assert_eq!(handle(&message(kind, &field), FACTORY, Values::default()).rows[0].error, 0);
+                        assert_eq!(handle(0, &message(kind, &field), FACTORY, Values::default()).rows[0].error, 0);
                     }
                 }
                 assert_eq!(room, expected_room);
@@ -105,7 +105,7 @@ fn payload_of_written_fields() {
     }
     let mut room = [0; 261];
     assert_eq!(write_message(0x02, &payload, &mut room), (0, 21));
-    let handled = handle(&room[..21], FACTORY, Values::default());
+    let handled = handle(0, &room[..21], FACTORY, Values::default());
     assert_eq!(handled.settings, Settings { baud: 921600, accelerometer: 4, gyroscope: 7 });
     assert_eq!(handled.rows.len(), 3);
     // A range over 255 is none of the allowed ones.
@@ -164,7 +164,7 @@ fn reply_reader() {
     assert_eq!(read_reply(&hex("A5A5A5048002020178A9"), 0), nothing(22));
 
     for error in 0..=255 {
-        let expected = if error <= 4 { reply(0x63, 9, error, None) } else { nothing(23) };
+        let expected = if error <= 5 { reply(0x63, 9, error, None) } else { nothing(23) };
         assert_eq!(read_reply(&message(0x63, &[0x80, 2, 9, error]), 0), expected);
     }
     assert_eq!(read_reply(&message(2, &hex("80020100 0104 0001C200")), 0), reply(2, 1, 0, Some(115200)));
@@ -202,7 +202,7 @@ fn no_replies() {
     }
 }
 
-/// "1 to 16 of these rows by number (27 for none), several only in types 01 and 02".
+/// "1 to 16 of these rows by number (27 for none), several only in types 01 and 02", and since 02-03.6 in 7C.
 #[test]
 fn reply_rows() {
     let nothing = |number| Reply { number, kind: 0, echo: 0, error: 0, value: None };
@@ -220,11 +220,11 @@ fn reply_rows() {
     damaged[8] ^= 1;
     assert_eq!(read_reply(&damaged, 3), nothing(22));
 
-    // One row in any type, 2 to 16 in types 01 and 02, none and 17 in none.
+    // One row in any type, 2 to 16 in types 01, 02 and 7C, none and 17 in none.
     for kind in 0..=255 {
         for count in 0..=18 {
             let reply = message(kind, &hex("80020904").repeat(count));
-            let most = if kind == 1 || kind == 2 { 16 } else { 1 };
+            let most = if [0x01, 0x02, 0x7C].contains(&kind) { 16 } else { 1 };
             for place in [0, 1, 15, 16, 17] {
                 let expected = match (1..=most).contains(&count) {
                     false => nothing(23),
@@ -246,6 +246,7 @@ fn reply_rows() {
 fn wrong_rows() {
     for (kind, text) in [
         (1, "80020700 070102"),        // a value in type 01
+        (3, "80020700 070102"),        // a value in type 03
         (2, "80020701 070102"),        // a value after an error
         (2, "80020700 080102"),        // of another code
         (2, "80020700 070102 070102"), // two values
@@ -256,7 +257,8 @@ fn wrong_rows() {
         (2, "8003070000"),             // 80 of size 3
         (2, "800107"),                 // 80 of size 1
         (2, "8000"),                   // 80 of size 0
-        (2, "80020705"),               // no error of the table
+        (2, "80020706"),               // no error of the table
+        (2, "80020705 070102"),        // a value after error 5
         (2, "070102"),                 // a value without a row
         (2, "80020700 07"),            // not filled
         (2, "80020700 80"),            // not filled
@@ -277,7 +279,7 @@ fn replies_are_read() {
     for turn in 0..40_000 {
         let received = if turn % 2 == 0 { generate::any_good(&mut rng) } else { fields::several(&mut rng) };
         let settings = generate::allowed_settings(&mut rng);
-        let handled = handle(&received, settings, generate::values(&mut rng));
+        let handled = handle(0, &received, settings, generate::values(&mut rng));
         for (place, &Row { echo, error, value }) in handled.rows.iter().enumerate() {
             let expected = Reply { number: 0, kind: received[2], echo, error, value };
             assert_eq!(read_reply(&handled.reply, place), expected);

@@ -72,11 +72,16 @@ pub fn field(rng: &mut Rng, kind: u8) -> Vec<u8> {
 
 /// This many fields, of at most 255 bytes in all.
 pub fn row(rng: &mut Rng, kind: u8, count: usize) -> Vec<u8> {
+    row_within(rng, kind, count, 255)
+}
+
+/// This many fields, of at most `most` bytes in all, which is twice the count or more.
+pub fn row_within(rng: &mut Rng, kind: u8, count: usize, most: usize) -> Vec<u8> {
     let mut payload = Vec::new();
     for place in 0..count {
         let field = field(rng, kind);
         // Two bytes at least are left for each that comes after it.
-        if payload.len() + field.len() + 2 * (count - 1 - place) <= 255 {
+        if payload.len() + field.len() + 2 * (count - 1 - place) <= most {
             payload.extend(field);
         } else {
             payload.extend([field[0], 0]);
@@ -184,15 +189,15 @@ fn value_field(rng: &mut Rng, code: u8) -> Vec<u8> {
     [vec![code, size as u8], bytes_of(value, size)].concat()
 }
 
-/// A row as a board of this type writes it.
+/// A row as a board writes it in a reply of this type.
 fn right_row(rng: &mut Rng, kind: u8) -> Vec<u8> {
-    if kind == 0x02 && rng.chance(1, 2) {
+    if (kind == 0x02 || kind == 0x7C) && rng.chance(1, 2) {
         let code = rng.pick(&SETTINGS);
         let size = value_size(code).expect("a setting has a value");
         let value = allowed_value(rng, code);
         return [vec![0x80, 2, code, 0, code, size as u8], bytes_of(value, size)].concat();
     }
-    vec![0x80, 2, code(rng), rng.below(5) as u8]
+    vec![0x80, 2, code(rng), rng.below(6) as u8]
 }
 
 /// A row that is mostly wrong: the field 80, its size or error, or the value behind it.
@@ -203,10 +208,10 @@ fn wrong_row(rng: &mut Rng) -> Vec<u8> {
     match rng.below(9) {
         0 => [vec![0x80, 3, code, 0], rng.bytes(1)].concat(),
         1 => vec![0x80, 1, code],
-        2 => first(rng.between(5, 255) as u8),
+        2 => first(rng.between(6, 255) as u8),
         3 => vec![rng.byte(), 2, code, 0],
         // A value after an error, of another code, twice, of a code that has none, and of another size.
-        4 => [first(rng.between(1, 4) as u8), value_field(rng, code)].concat(),
+        4 => [first(rng.between(1, 5) as u8), value_field(rng, code)].concat(),
         5 => [first(0), value_field(rng, other)].concat(),
         6 => [first(0), value_field(rng, code), value_field(rng, code)].concat(),
         7 => [vec![0x80, 2, other, 0], value_field(rng, other)].concat(),
@@ -221,6 +226,11 @@ fn wrong_row(rng: &mut Rng) -> Vec<u8> {
 /// right.
 pub fn reply_of_rows(rng: &mut Rng) -> Vec<u8> {
     let kind = kind_of_fields(rng);
+    reply_of_kind(rng, kind)
+}
+
+/// Such a reply of this type.
+pub fn reply_of_kind(rng: &mut Rng, kind: u8) -> Vec<u8> {
     let count = count(rng);
     let wrong = if rng.chance(1, 2) { rng.below(count.max(1)) } else { count };
     let mut payload = Vec::new();

@@ -51,6 +51,15 @@ impl Both {
         Both::new(&[0xFF; 64])
     }
 
+    /// A start anew on the page as it stands, and in the reckoning.
+    pub fn restart(&mut self) {
+        let (number, board) = start(&self.page);
+        assert_eq!(number, 0);
+        self.board = board;
+        self.reckoning.restart();
+        self.compare_state().unwrap();
+    }
+
     /// Settings, held bytes and page agree; past the held bytes a port is zero.
     pub fn compare_state(&self) -> Result<(), String> {
         same("settings", &self.board.settings, &self.reckoning.settings())?;

@@ -25,6 +25,12 @@ is-there-requires-3 c κs = search needs
 number-in-requires-3 : tie.Need-number-in-requires-3
 number-in-requires-3 c κs = search needs
 
+is-there-requires-4 : tie.Need-is-there-requires-4
+is-there-requires-4 c κs = search needs
+
+number-in-requires-4 : tie.Need-number-in-requires-4
+number-in-requires-4 c κs = search needs
+
 returns : tie.Need-returns
 returns c = search (values-flat, needs)
 
@@ -39,4 +45,6 @@ flat-values-spec =
     number-in-requires-2
     is-there-requires-3
     number-in-requires-3
+    is-there-requires-4
+    number-in-requires-4
     returns)

@@ -13,9 +13,12 @@ stored-from-requires-2 c κs = search needs
 stored-from-requires-3 : tie.Need-stored-from-requires-3
 stored-from-requires-3 c κs = search needs
 
+stored-from-requires-4 : tie.Need-stored-from-requires-4
+stored-from-requires-4 c κs = search needs
+
 returns : tie.Need-returns
 returns c = search (values-made, needs)
 
 pub values-from-spec : {M : Type 1} → statement M
 values-from-spec =
-    tie.close (tie.spec stored-from-requires stored-from-requires-2 stored-from-requires-3 returns)
+    tie.close (tie.spec stored-from-requires stored-from-requires-2 stored-from-requires-3 stored-from-requires-4 returns)

@@ -1,5 +1,5 @@
 -- `client::reader::rows_wrong` meets its contract: each `return` is a test of the definition.
-use Rattle.client.proofs.Readings.{wrong-none, wrong-many, wrong-one, wrong-first, wrong-kind}
+use Rattle.client.proofs.Readings.{wrong-none, wrong-many, wrong-one, wrong-first, wrong-second, wrong-kind}
 use borrow.Author.Needs.{needs}
 use Rattle.client.proofs.reader.rows_wrong.Statement.{statement}
 use Rattle.client.proofs.reader.rows_wrong.Tie as tie
@@ -17,7 +17,10 @@ returns-4 : tie.Need-returns-4
 returns-4 c = search (wrong-first, needs)
 
 returns-5 : tie.Need-returns-5
-returns-5 c = search (wrong-kind, needs)
+returns-5 c = search (wrong-second, needs)
+
+returns-6 : tie.Need-returns-6
+returns-6 c = search (wrong-kind, needs)
 
 pub rows-wrong-spec : {M : Type 1} → statement M
-rows-wrong-spec = tie.close (tie.spec returns returns-2 returns-3 returns-4 returns-5)
+rows-wrong-spec = tie.close (tie.spec returns returns-2 returns-3 returns-4 returns-5 returns-6)

@@ -6,6 +6,9 @@ use borrow.Author.Needs.{needs}
 use Rattle.client.proofs.reader.value_field_size.Statement.{statement}
 use Rattle.client.proofs.reader.value_field_size.Tie as tie
 
+carries-values-requires : tie.Need-carries-values-requires
+carries-values-requires c κs = search needs
+
 returns : tie.Need-returns
 returns c = (search (field-kind, needs), omega arith)
 
@@ -43,6 +46,7 @@ pub value-field-size-spec : {M : Type 1} → statement M
 value-field-size-spec =
     tie.close
     (tie.spec
+    carries-values-requires
     returns
     returns-2
     setting-of-requires

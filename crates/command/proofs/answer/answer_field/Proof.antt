@@ -13,6 +13,9 @@ put-row-requires c κs = search needs
 same-length : tie.Need-same-length
 same-length c = search needs
 
+same-length-2 : tie.Need-same-length-2
+same-length-2 c = search needs
+
 returns : tie.Need-returns
 returns c = search (field-refused, needs)
 
@@ -31,23 +34,29 @@ obey-requires c κs = search (field-ready, needs)
 enum-told-2 : tie.Need-enum-told-2
 enum-told-2 c = search needs
 
-same-length-2 : tie.Need-same-length-2
-same-length-2 c = search needs
-
-returns-2 : tie.Need-returns-2
-returns-2 c = search (field-ping, needs)
-
 same-length-3 : tie.Need-same-length-3
 same-length-3 c = search needs
 
 same-length-4 : tie.Need-same-length-4
 same-length-4 c = search needs
 
-returns-3 : tie.Need-returns-3
-returns-3 c = search (field-setting, needs)
+returns-2 : tie.Need-returns-2
+returns-2 c = search (field-ping, needs)
 
 same-length-5 : tie.Need-same-length-5
 same-length-5 c = search needs
+
+same-length-6 : tie.Need-same-length-6
+same-length-6 c = search needs
+
+returns-3 : tie.Need-returns-3
+returns-3 c = search (field-setting, needs)
+
+same-length-7 : tie.Need-same-length-7
+same-length-7 c = search needs
+
+same-length-8 : tie.Need-same-length-8
+same-length-8 c = search needs
 
 returns-4 : tie.Need-returns-4
 returns-4 c = search (field-unknown, needs)
@@ -59,16 +68,19 @@ answer-field-spec =
     field-error-requires
     put-row-requires
     same-length
+    same-length-2
     returns
     subject-of-requires
     enum-told
     enum-known-s
     obey-requires
     enum-told-2
-    same-length-2
-    returns-2
     same-length-3
     same-length-4
-    returns-3
+    returns-2
     same-length-5
+    same-length-6
+    returns-3
+    same-length-7
+    same-length-8
     returns-4)

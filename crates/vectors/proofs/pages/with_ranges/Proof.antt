@@ -16,8 +16,8 @@ loop-holds c = search needs
 choice-requires : tie.Need-choice-requires Inv-loop μ-loop
 choice-requires c κs = search needs
 
-with-requires : tie.Need-with-requires Inv-loop μ-loop
-with-requires c κs = search needs
+with-numbers-requires : tie.Need-with-numbers-requires Inv-loop μ-loop
+with-numbers-requires c κs = search needs
 
 add-i : tie.Need-add-i Inv-loop μ-loop
 add-i c = search needs
@@ -39,7 +39,7 @@ with-ranges-spec =
     μ-loop
     loop-holds
     choice-requires
-    with-requires
+    with-numbers-requires
     add-i
     loop-less
     loop-again

@@ -1,0 +1,135 @@
+-- Demand 3 over histories: from a start on a blank or sound page, every list of feeds and restarts goes as the plain reckoning says.
+use mathlib.Core.List.{List, [], _∷_}
+use mathlib.Core.Path.{_≡_, refl, sym, ap, subst, _∙_}
+use Prim.Native.Nat.{ℕ, zero, suc, _≤_}
+use lib.ListN.{length}
+use Rattle.history.specs.Feeds.{Run, State}
+use Rattle.history.specs.Feeds.{Feed as FeedOf, portOf as keptPort}
+use Rattle.history.specs.Program.{heldStep}
+use Rattle.history.specs.Restarts.{Act, call, restart, historyFrom, startedOn, heldHistory}
+use Rattle.history.specs.Theorems.{Matches}
+use Rattle.history.proofs.Restarts.{restarts-match, restarts-held-few}
+use Rattle.message.specs.Front.{front, mostUndecided}
+use Rattle.message.proofs.Framed.{cutting-harmless}
+use Rattle.page.specs.declared.setting.Values.{Values}
+use Rattle.page.specs.Lookup.{valuesIn}
+use Rattle.page.specs.Sound.{pageNumber}
+use Rattle.page.proofs.Pages.{sound-is-writing}
+use Rattle.command.specs.Answer.{replyRoom}
+use Rattle.board.specs.declared.board.Board.{Board}
+use Rattle.board.specs.declared.board.Started.{Started}
+use Rattle.board.specs.Port.{portRoom}
+use Rattle.board.specs.Start.{freshBoard, startOn, startOf}
+use Rattle.board.specs.Feed.{Feeding, feedOf}
+use Rattle.board.specs.Handling.{Reckoned, Kept, settingsOf, reckonMessage, handleMessage, keptTests, StoredAs}
+use Rattle.board.specs.Runs.{Call, Calls, feedFrom}
+use Rattle.board.specs.Histories.{actsFrom, actsOn, acceptedFrom, acceptedOn}
+use Rattle.board.specs.Restarts.{callsIn, feedActs, startAnew, reckonedActs, acceptedIn, HistoryDemand3}
+use Rattle.board.proofs.Feedings.{feeds-keep}
+use Rattle.board.proofs.Handles.{handles}
+use Rattle.board.proofs.Reckons.{Followed, followed-reckoned, settings-allowed, started, fresh-padded, page-sound}
+use Rattle.board.proofs.Steps.{stateOf, Padded, Same, step-same}
+
+-- ---- starting anew
+
+-- A started board is fresh, whatever the page.
+start-fresh : (page : List ℕ) → startOf page .board ≡ freshBoard (startOf page .board .settings)
+unfolding startOf
+start-fresh page = go (pageNumber page)
+  where
+    go : (n : ℕ) → startOn n page .board ≡ freshBoard (startOn n page .board .settings)
+    go zero = refl
+    go (suc n) = refl
+
+start-padded : (page : List ℕ) → Padded (startOf page .board)
+start-padded page = subst Padded (sym (start-fresh page)) (fresh-padded (startOf page .board .settings))
+
+-- The board's start, as the program that keeps only held bytes makes it.
+abbrev startKept : Kept → Kept
+startKept x = record { settings = startOf (x .page) .board .settings; page = x .page }
+
+start-state : (x : Kept) → startedOn [] startKept x ≡ stateOf (startOf (x .page) .board) (x .page)
+start-state x = sym (ap (λ (b : Board). stateOf b (x .page)) (start-fresh (x .page)))
+
+starts-alike : (x : Reckoned) (y : Kept) → StoredAs x y → StoredAs (startAnew x) (startKept y)
+starts-alike x y r =
+    record {
+      settings =
+          sym (ap (λ (p : List ℕ). startOf p .board .settings) (r .page) ∙ ap (λ (s : Started). s .board .settings) (started (x .page) (r .values-allowed)));
+      page = r .page;
+      settings-allowed = settings-allowed (x .page) (r .values-allowed);
+      values-allowed = r .values-allowed;
+    }
+
+-- ---- histories of the board are histories of that program
+
+abbrev programFrom : State (List ℕ) Kept → List (Act FeedOf) → Run (State (List ℕ) Kept)
+programFrom s acts = historyFrom (heldStep front handleMessage 260 replyRoom keptTests) (λ s. startedOn [] startKept (s .values)) s acts
+
+record FollowedActs (acts : List (Act Call)) (r : Calls) (ns : List ℕ) (q : Run (State (List ℕ) Kept)) : Type 0 where
+  calls-told : Followed (callsIn acts) r q
+  accepted-told : ns ≡ acceptedIn (q .answers)
+
+from-start : (x : Kept) (acts : List (Act Call)) (r : Calls) (ns : List ℕ)
+    → FollowedActs acts r ns (programFrom (stateOf (startOf (x .page) .board) (x .page)) (feedActs acts))
+    → FollowedActs acts r ns (programFrom (startedOn [] startKept x) (feedActs acts))
+from-start x acts r ns f = subst (λ (s : State (List ℕ) Kept). FollowedActs acts r ns (programFrom s (feedActs acts))) (sym (start-state x)) f
+
+followed : (acts : List (Act Call)) (b : Board) (page : List ℕ) → Padded b
+    → FollowedActs acts (actsFrom b page acts) (acceptedFrom b page acts) (programFrom (stateOf b page) (feedActs acts))
+unfolding actsFrom acceptedFrom historyFrom
+followed [] b page k = record { calls-told = record { told = tt; final = refl; padded = k }; accepted-told = refl }
+followed (call c ∷ acts) b page k =
+    let f : Feeding = feedOf (c .port) b (c .chunk) (c .room) page in
+    let s : Same b c f (heldStep front handleMessage 260 replyRoom keptTests (stateOf b page) (feedFrom c)) = step-same b page c k in
+    let rest = followed acts (f .answer .board) (f .page) (s .padded) in
+    let t = rest .calls-told in
+    rw (s .state)
+    (record {
+      calls-told = record { told = (s .told, t .told); final = t .final; padded = t .padded };
+      accepted-told = cc (s .accepted, rest .accepted-told);
+    })
+followed (restart ∷ acts) b page k =
+    let x : Kept = record { settings = b .settings; page = page } in
+    let f = from-start x acts (actsFrom (startOf page .board) page acts) (acceptedFrom (startOf page .board) page acts) (followed acts (startOf page .board) page (start-padded page)) in
+    let t = f .calls-told in
+    record { calls-told = record { told = t .told; final = t .final; padded = t .padded }; accepted-told = f .accepted-told }
+
+-- ---- every start is done
+
+start-done : (page : List ℕ) → pageNumber page ≡ 0 → startOf page .number ≡ 0
+unfolding startOf
+start-done page e = rw e
+
+acts-passing : (b : Board) (page : List ℕ) (acts : List (Act Call)) → pageNumber page ≡ 0 → pageNumber (actsFrom b page acts .page) ≡ 0
+unfolding actsFrom
+acts-passing b page [] e = e
+acts-passing b page (call c ∷ acts) e =
+    let f : Feeding = feedOf (c .port) b (c .chunk) (c .room) page in
+    acts-passing (f .answer .board) (f .page) acts (feeds-keep (c .port) b (c .chunk) (c .room) page .page-sound e)
+acts-passing b page (restart ∷ acts) e = acts-passing (startOf page .board) page acts e
+
+-- ---- the whole
+
+pub history-demand3 : HistoryDemand3
+unfolding heldHistory
+history-demand3 page acts e =
+    let v : Values = valuesIn page in
+    let i = sound-is-writing page (page-sound page e) in
+    let x : Reckoned = record { settings = settingsOf v; page = v } in
+    let y : Kept = record { settings = settingsOf v; page = page } in
+    let r : StoredAs x y = record { settings = refl; page = i .written; settings-allowed = settings-allowed v (i .allowed-values); values-allowed = i .allowed-values } in
+    let p : Run (State (List ℕ) Kept) = programFrom (startedOn [] startKept y) (feedActs acts) in
+    let few : (port : ℕ) → length (keptPort port (p .final)) ≤ portRoom =
+    λ port. restarts-held-few front mostUndecided replyRoom StoredAs reckonMessage keptTests handleMessage startAnew startKept cutting-harmless handles starts-alike port x y (feedActs acts) r in
+    let m : Matches StoredAs (reckonedActs v acts) p =
+    restarts-match front mostUndecided replyRoom StoredAs reckonMessage keptTests handleMessage startAnew startKept cutting-harmless handles starts-alike x y (feedActs acts) r in
+    let f = from-start y acts (actsOn page acts) (acceptedOn page acts) (followed acts (startOf page .board) page (start-padded page)) in
+    record {
+      values = v;
+      allowed-values = i .allowed-values;
+      written = i .written;
+      reckoned = followed-reckoned (callsIn acts) (actsOn page acts) p (reckonedActs v acts) (f .calls-told) m (few 0) (few 1);
+      started = start-done (actsOn page acts .page) (acts-passing (startOf page .board) page acts e);
+      accepted = f .accepted-told ∙ ap acceptedIn (m .answers);
+    }

@@ -1,0 +1,215 @@
+-- Requests 02 and 03: feeds and restarts as a single table, with a single statement about what the rules give for it. Each line begins with
+-- a start on its page, and each room has 166 bytes. (Messages one by one, with all their errors, are in command/specs/Examples.)
+use mathlib.Core.Bool.{true}
+use mathlib.Core.List.{List, [], _∷_, _++_}
+use mathlib.Core.Path.{_≡_}
+use Prim.Native.Nat.{ℕ, _-_}
+use lib.ListN.{length, take, replicate}
+use Rattle.word.specs.Word.{wordBytes}
+use Rattle.history.specs.Restarts.{Act, call, restart}
+use Rattle.message.specs.Message.{messageOf}
+use Rattle.page.specs.Page.{filled, blankPage}
+use Rattle.command.specs.declared.settings.Settings.{Settings}
+use Rattle.command.specs.Several.{times}
+use Rattle.board.specs.Feed.{Feeding}
+use Rattle.board.specs.Runs.{Call, Calls}
+use Rattle.board.specs.Histories.{actsOn, acceptedOn}
+use Rattle.board.specs.Samples.{Out, done, saves, outOf}
+
+-- A feed: the port, the chunk, and what it gives.
+pub record Sent : Type 0 where
+  pub port : ℕ
+  pub chunk : List ℕ
+  pub out : Out
+
+-- A line: the page at the beginning; feeds and restarts; the numbers accepted; the settings and the page at the end.
+pub record Line : Type 0 where
+  pub page : List ℕ
+  pub acts : List (Act Sent)
+  pub accepted : List ℕ
+  pub settings : Settings
+  pub left : List ℕ
+
+-- ---- messages and replies
+
+-- A message that is taken whole and answered: without the mark of a save, or with it.
+abbrev plain : ℕ → List ℕ → List ℕ → Act Sent
+plain port m reply = call (record { port = port; chunk = m; out = done (length m) 0 reply })
+
+abbrev marks : ℕ → List ℕ → List ℕ → Act Sent
+marks port m reply = call (record { port = port; chunk = m; out = saves (length m) reply })
+
+-- Type 7C: a number, then a command's type and its fields.
+abbrev numbered : ℕ → ℕ → List ℕ → List ℕ
+numbered n kind fields = messageOf 0x7C (wordBytes n ++ (kind ∷ fields))
+
+-- With a wrong last byte.
+abbrev spoiled : List ℕ → List ℕ
+spoiled m = take (length m - 1) m ++ (0x00 ∷ [])
+
+-- Fields: Ping; of a setting function 1 with a value of one byte; and a function without a value.
+abbrev ping : List ℕ
+ping = 0x02 ∷ 0x00 ∷ []
+
+abbrev sets : ℕ → ℕ → List ℕ
+sets code value = code ∷ 0x02 ∷ 0x01 ∷ value ∷ []
+
+abbrev does : ℕ → ℕ → List ℕ
+does function code = code ∷ 0x01 ∷ function ∷ []
+
+-- A row of a reply; and one with the value of one byte that function 2 adds.
+abbrev row : ℕ → ℕ → List ℕ
+row echo error = 0x80 ∷ 0x02 ∷ echo ∷ error ∷ []
+
+abbrev rowWith : ℕ → ℕ → List ℕ
+rowWith code value = row code 0 ++ (code ∷ 0x01 ∷ value ∷ [])
+
+-- ---- pages and settings
+
+-- A page with a number alone.
+abbrev numberPage : ℕ → List ℕ
+numberPage n = filled (0x01 ∷ 0x70 ∷ 0x04 ∷ 0x04 ∷ wordBytes n)
+
+-- A page with accelerometer range 04 and the number 7.
+abbrev keptPage : List ℕ
+keptPage = filled (0x02 ∷ 0x07 ∷ 0x07 ∷ 0x01 ∷ 0x70 ∷ 0x08 ∷ 0x04 ∷ 0x04 ∷ 0x00 ∷ 0x00 ∷ 0x00 ∷ 0x07 ∷ [])
+
+abbrev working : ℕ → ℕ → Settings
+working accelerometer gyroscope = record { baud = 115200; accelerometer = accelerometer; gyroscope = gyroscope }
+
+-- ---- the table
+
+abbrev pub examples : List Line
+examples =
+    -- Several fields, each on what those before it left: the range 05 is used and saved, 01 is used, and loading gives 05 again. An error
+    -- in the middle (a range that is not allowed, a Ping in type 02) does not stop the later ones.
+    record {
+      page = blankPage;
+      acts =
+          marks 0 (messageOf 0x02 (sets 0x08 0x05 ++ does 0x03 0x08 ++ sets 0x08 0x01 ++ sets 0x07 0x09 ++ ping ++ does 0x04 0x08 ++ does 0x02 0x08))
+          (messageOf 0x02 (row 0x08 0 ++ row 0x08 0 ++ row 0x08 0 ++ row 0x07 4 ++ row 0x02 3 ++ row 0x08 0 ++ rowWith 0x08 0x05))
+          ∷ [];
+      accepted = [];
+      settings = working 0x02 0x05;
+      left = filled (0x01 ∷ 0x08 ∷ 0x04 ∷ 0x01 ∷ 0x05 ∷ []);
+    }
+    -- At most 16 fields, and they fill the payload: otherwise 4, also where the first code is unknown.
+    ∷ record {
+      page = blankPage;
+      acts =
+          plain 0 (messageOf 0x01 (times 16 ping)) (messageOf 0x01 (times 16 (row 0x02 0)))
+          ∷ plain 0 (messageOf 0x01 (times 17 ping)) (messageOf 0x01 (row 0x02 4))
+          ∷ plain 0 (messageOf 0x01 (0x02 ∷ [])) (messageOf 0x01 (row 0x02 4))
+          ∷ plain 1 (messageOf 0x02 (0x55 ∷ 0x02 ∷ 0x00 ∷ [])) (messageOf 0x02 (row 0x55 4))
+          ∷ [];
+      accepted = [];
+      settings = working 0x02 0x03;
+      left = blankPage;
+    }
+    -- A Ping numbered 5. After a restart 5 is stale, on either port, and 6 is fresh.
+    ∷ record {
+      page = blankPage;
+      acts =
+          marks 0 (numbered 5 0x01 ping) (messageOf 0x7C (row 0x02 0))
+          ∷ restart
+          ∷ plain 0 (numbered 5 0x01 ping) (messageOf 0x7C (row 0x02 5))
+          ∷ plain 1 (numbered 5 0x01 ping) (messageOf 0x7C (row 0x02 5))
+          ∷ marks 1 (numbered 6 0x01 ping) (messageOf 0x7C (row 0x02 0))
+          ∷ plain 0 (numbered 6 0x01 ping) (messageOf 0x7C (row 0x02 5))
+          ∷ [];
+      accepted = 5 ∷ 6 ∷ [];
+      settings = working 0x02 0x03;
+      left = numberPage 6;
+    }
+    -- Yesterday's commands, sent again after a restart: a range is used and saved; then both are stale, and without a number port 0 takes
+    -- neither. The settings are those of the page.
+    ∷ record {
+      page = blankPage;
+      acts =
+          marks 0 (numbered 1 0x02 (sets 0x08 0x05 ++ does 0x03 0x08)) (messageOf 0x7C (row 0x08 0 ++ row 0x08 0))
+          ∷ marks 0 (numbered 2 0x02 (sets 0x08 0x01)) (messageOf 0x7C (row 0x08 0))
+          ∷ restart
+          ∷ plain 0 (numbered 1 0x02 (sets 0x08 0x05 ++ does 0x03 0x08)) (messageOf 0x7C (row 0x08 5))
+          ∷ plain 0 (numbered 2 0x02 (sets 0x08 0x01)) (messageOf 0x7C (row 0x08 5))
+          ∷ plain 0 (messageOf 0x02 (sets 0x08 0x01)) (messageOf 0x02 (row 0x08 5))
+          ∷ [];
+      accepted = 1 ∷ 2 ∷ [];
+      settings = working 0x02 0x05;
+      left = filled (0x02 ∷ 0x08 ∷ 0x07 ∷ 0x01 ∷ 0x70 ∷ 0x08 ∷ 0x04 ∷ 0x05 ∷ 0x00 ∷ 0x00 ∷ 0x00 ∷ 0x02 ∷ []);
+    }
+    -- Saves behind a number: four entries, the number last.
+    ∷ record {
+      page = keptPage;
+      acts =
+          marks 0 (numbered 8 0x02 (does 0x03 0x08 ++ does 0x03 0x01 ++ sets 0x08 0x01)) (messageOf 0x7C (row 0x08 0 ++ row 0x01 0 ++ row 0x08 0))
+          ∷ [];
+      accepted = 8 ∷ [];
+      settings = working 0x04 0x01;
+      left =
+          filled
+          ((0x04 ∷ 0x01 ∷ 0x0D ∷ 0x04 ∷ 0x07 ∷ 0x11 ∷ 0x01 ∷ 0x08 ∷ 0x12 ∷ 0x01 ∷ 0x70 ∷ 0x13 ∷ 0x04 ∷ [])
+          ++ (0x00 ∷ 0x01 ∷ 0xC2 ∷ 0x00 ∷ 0x04 ∷ 0x03 ∷ 0x00 ∷ 0x00 ∷ 0x00 ∷ 0x08 ∷ []));
+    }
+    -- After 4294967295 nothing is fresh.
+    ∷ record {
+      page = numberPage 4294967294;
+      acts =
+          marks 0 (numbered 4294967295 0x01 ping) (messageOf 0x7C (row 0x02 0))
+          ∷ plain 0 (numbered 0 0x01 ping) (messageOf 0x7C (row 0x02 5))
+          ∷ restart
+          ∷ plain 1 (numbered 4294967295 0x01 ping) (messageOf 0x7C (row 0x02 5))
+          ∷ [];
+      accepted = 4294967295 ∷ [];
+      settings = working 0x02 0x03;
+      left = numberPage 4294967295;
+    }
+    -- A damaged message of type 7C echoes the first byte of its number, 09, and spends nothing: the same number is fresh afterwards. Twelve
+    -- bytes of the damaged message are still held then, and skipped.
+    ∷ record {
+      page = blankPage;
+      acts =
+          call (record { port = 0; chunk = spoiled (numbered 0x09000005 0x01 ping); out = done 13 1 (messageOf 0x7C (row 0x09 1)) })
+          ∷ call
+          (record {
+            port = 0;
+            chunk = numbered 0x09000005 0x01 ping;
+            out = record { number = 0; taken = 13; skipped = 12; saved = true; reply = messageOf 0x7C (row 0x02 0) };
+          })
+          ∷ [];
+      accepted = 0x09000005 ∷ [];
+      settings = working 0x02 0x03;
+      left = numberPage 0x09000005;
+    }
+    ∷ []
+
+-- ---- what the rules give
+
+abbrev actsFor : List (Act Sent) → List (Act Call)
+actsFor [] = []
+actsFor (call s ∷ acts) = call (record { port = s .port; chunk = s .chunk; room = replicate 166 0 }) ∷ actsFor acts
+actsFor (restart ∷ acts) = restart ∷ actsFor acts
+
+abbrev given : List (Act Sent) → List Feeding → List (Act Sent)
+given [] fs = []
+given (call s ∷ acts) [] = []
+given (call s ∷ acts) (f ∷ fs) = call (record { port = s .port; chunk = s .chunk; out = outOf f }) ∷ given acts fs
+given (restart ∷ acts) fs = restart ∷ given acts fs
+
+abbrev lineFor : List ℕ → List (Act Sent) → Line
+lineFor page acts =
+    let r : Calls = actsOn page (actsFor acts) in
+    record {
+      page = page;
+      acts = given acts (r .feedings);
+      accepted = acceptedOn page (actsFor acts);
+      settings = r .board .settings;
+      left = r .page;
+    }
+
+abbrev linesFor : List Line → List Line
+linesFor [] = []
+linesFor (l ∷ ls) = lineFor (l .page) (l .acts) ∷ linesFor ls
+
+-- The rules give for each line's page and feeds what the line says. Proof: Sampled `example-lines`.
+abbrev pub ExampleLines : Type 0
+ExampleLines = linesFor examples ≡ examples

@@ -1,0 +1,67 @@
+-- Demand 3 over the histories of feeds and restarts (Histories): the plain reckoning of them, where a restart takes the working values
+-- anew from the page's values. Each statement names its proof, a term of that type in a file of proofs/.
+use mathlib.Core.Bool.{true}
+use mathlib.Core.List.{List, [], _∷_, _++_}
+use mathlib.Core.Option.{Option, none}
+use mathlib.Core.Path.{_≡_}
+use Prim.Native.Nat.{ℕ}
+use Rattle.stream.specs.Scan.{Message}
+use Rattle.history.specs.Feeds.{Answer, Run, State}
+use Rattle.history.specs.Feeds.{Feed as FeedOf}
+use Rattle.history.specs.Reckoning.{Ledger}
+use Rattle.history.specs.Restarts.{Act, call, restart, reckonedHistory}
+use Rattle.message.specs.Front.{front}
+use Rattle.page.specs.declared.setting.Values.{Values}
+use Rattle.page.specs.Page.{allAllowed, writing}
+use Rattle.page.specs.Sound.{pageNumber}
+use Rattle.command.specs.Numbered.{carried}
+use Rattle.command.specs.Outcome.{receivedOf}
+use Rattle.command.specs.Answer.{replyRoom}
+use Rattle.board.specs.Start.{startOf}
+use Rattle.board.specs.Handling.{Reckoned, settingsOf, reckonMessage}
+use Rattle.board.specs.Runs.{Call, feedFrom}
+use Rattle.board.specs.Theorems.{AsReckoned}
+use Rattle.board.specs.Histories.{actsOn, acceptedWith, acceptedOn}
+
+abbrev pub callsIn : List (Act Call) → List Call
+callsIn [] = []
+callsIn (call c ∷ acts) = c ∷ callsIn acts
+callsIn (restart ∷ acts) = callsIn acts
+
+-- What the reckoning is given: each feed's port, chunk and length of room, and the restarts.
+abbrev pub feedActs : List (Act Call) → List (Act FeedOf)
+feedActs [] = []
+feedActs (call c ∷ acts) = call (feedFrom c) ∷ feedActs acts
+feedActs (restart ∷ acts) = restart ∷ feedActs acts
+
+-- A start sets the working values anew, from the page's values that are kept.
+abbrev pub startAnew : Reckoned → Reckoned
+startAnew x = record { settings = settingsOf (x .page); page = x .page }
+
+abbrev pub reckonedActs : Values → List (Act Call) → Run (State Ledger Reckoned)
+reckonedActs v acts = reckonedHistory front reckonMessage replyRoom startAnew (record { settings = settingsOf v; page = v }) (feedActs acts)
+
+-- The numbers accepted by the reckoning's answers, which name the message that each call reported.
+abbrev pub carriedBy : List Message → Option ℕ
+carriedBy [] = none
+carriedBy (m ∷ ms) = carried (receivedOf (m .good) (m .bytes))
+
+abbrev pub acceptedIn : List Answer → List ℕ
+acceptedIn [] = []
+acceptedIn (a ∷ answers) = acceptedWith (a .saved) (carriedBy (a .reports)) ++ acceptedIn answers
+
+-- The page is the writing of allowed values; from a start on it all goes as reckoned from those values; and the numbers accepted are
+-- those of the messages that the reckoning reports with the mark of a save. A start at the end is done; and so is every restart, since
+-- each stands at the end of the history before it (`OneActMore`).
+pub record HistoryFromPage (page : List ℕ) (acts : List (Act Call)) : Type 0 where
+  pub values : Values
+  pub allowed-values : allAllowed values ≡ true
+  pub written : page ≡ writing values
+  pub reckoned : AsReckoned (callsIn acts) (actsOn page acts) (reckonedActs values acts)
+  pub started : startOf (actsOn page acts .page) .number ≡ 0
+  pub accepted : acceptedOn page acts ≡ acceptedIn (reckonedActs values acts .answers)
+
+-- Demand 3 over histories: from a start on every blank or sound page, for every list of feeds and restarts. Proof: Restarts
+-- `history-demand3`.
+abbrev pub HistoryDemand3 : Type 0
+HistoryDemand3 = (page : List ℕ) (acts : List (Act Call)) → pageNumber page ≡ 0 → HistoryFromPage page acts
