@@ -1,7 +1,7 @@
 /*
  * Ketphiroj's calls for C. Each call of the library is proved to answer exactly what its definition says, for every argument:
  * crates/capi/src has the contracts, crates/NAME/specs the definitions. Not proved is what is C itself: the declarations below,
- * and ketphiroj_feed_board, which stands here whole and puts two answers of a proved call back into the board.
+ * and ketphiroj_start_board and ketphiroj_feed_board, which stand here whole and put what a proved call answers into the board.
  *
  * What a caller must see to, and nothing else:
  *   - a pointer with a length points to that many bytes, and is never NULL, not even with length 0;
@@ -9,7 +9,8 @@
  *   - a bool is true or false.
  * The archive is for x86-64: size_t is 64 bits.
  *
- * No call keeps a pointer, allocates, or has a state of its own. What is refused writes nothing to any buffer.
+ * No call keeps a pointer, allocates, or has a state of its own. What is refused writes nothing to any buffer; only a start in
+ * place on a page that it refuses (19, 20) clears the two ports.
  */
 #ifndef KETPHIROJ_H
 #define KETPHIROJ_H
@@ -84,6 +85,24 @@ typedef struct {
  */
 ketphiroj_started ketphiroj_start(const uint8_t *page, size_t page_length);
 
+/* What a start in place answers. The board is the caller's: `settings` are to be put into it. */
+typedef struct {
+    ketphiroj_settings settings; /* the working values now */
+    uint8_t number;
+} ketphiroj_started_in_place;
+
+/*
+ * Starts a board that the caller keeps, whatever stands in it, where ketphiroj_start answers a whole board and takes the stack for
+ * it. `first` and `second` are the 260 bytes of ports 0 and 1, which are cleared. The caller sets both held counts to 0 and puts
+ * the answer's settings into its board, as ketphiroj_start_board does: the board is then the one that ketphiroj_start answers.
+ * The page is only read.
+ * 0: the board starts on the settings that the page keeps, or on the factory's for those that it does not.
+ * 17: an array is not 260 bytes. Nothing was written, and the settings are the factory's.
+ * 19, 20: the page is refused. Both ports were cleared all the same, and the settings are the factory's.
+ */
+ketphiroj_started_in_place ketphiroj_start_in_place(
+    uint8_t *first, size_t first_length, uint8_t *second, size_t second_length, const uint8_t *page, size_t page_length);
+
 /* What a feed answers. The board is the caller's: `held` and `settings` are to be put back into it. */
 typedef struct {
     size_t taken;   /* bytes taken from the chunk: feed again from there */
@@ -120,6 +139,8 @@ typedef struct {
  *   - store the page where `saved`, and only then act on the answer: send the reply, and put the answered settings to use. A number
  *     that was answered and is not on the stored page would be accepted again after the cut. Where storing fails, send nothing and
  *     feed nothing more, but start again on the stored page;
+ *   - lend a copy of the page in memory that a power cut clears, and not the stored page itself: while a feed writes the page, it is blank
+ *     for a moment, and a blank page has no number;
  *   - store it whole or not at all: a page of which only a part was stored may keep a smaller number, or the next start refuses it;
  *   - start on the page that was stored last, never on an older copy, and let nobody else write or erase it. Where a start answers 20,
  *     the number is lost: a blank page in its place would let every number be accepted again, so that is for a person to decide.
@@ -127,6 +148,21 @@ typedef struct {
 ketphiroj_stepped ketphiroj_feed_in_place(
     uint8_t port, uint8_t *bytes, size_t bytes_length, size_t first, size_t second, ketphiroj_settings settings,
     const uint8_t *chunk, size_t chunk_length, uint8_t *room, size_t room_length, uint8_t *page, size_t page_length);
+
+/*
+ * Starts a board where it stands, whatever it holds: afterwards it is the one that ketphiroj_start answers, with the same number.
+ * Numbers: 0; 19, 20: the board has then two empty ports and the factory's settings. The call inside is proved; the three
+ * assignments after the call are C, and are not.
+ */
+static inline uint8_t ketphiroj_start_board(ketphiroj_board *board, const uint8_t *page, size_t page_length)
+{
+    ketphiroj_started_in_place answer = ketphiroj_start_in_place(
+        board->first.bytes, KETPHIROJ_PORT_ROOM, board->second.bytes, KETPHIROJ_PORT_ROOM, page, page_length);
+    board->first.held = 0;
+    board->second.held = 0;
+    board->settings = answer.settings;
+    return answer.number;
+}
 
 /*
  * Feeds a chunk to port 0 or 1 of a board: numbers and buffers as with ketphiroj_feed_in_place. It writes the named port's bytes,

@@ -69,9 +69,8 @@ static void use_three_settings(void) {
 
 int main(void) {
     memset(page, 0xFF, sizeof page);
-    ketphiroj_started started = ketphiroj_start(page, sizeof page);
-    board = started.board;
-    printf("start: number %u, %u baud\n", started.number, board.settings.baud);
+    uint8_t number = ketphiroj_start_board(&board, page, sizeof page);
+    printf("start: number %u, %u baud\n", number, board.settings.baud);
 
     uint8_t message[KETPHIROJ_LONGEST_MESSAGE];
     ketphiroj_written ping = ketphiroj_write_command(0x02, 0, 0, message, sizeof message);

@@ -15,6 +15,9 @@ _Static_assert(offsetof(ketphiroj_settings, gyroscope) == 5 && sizeof(ketphiroj_
 _Static_assert(offsetof(ketphiroj_board, second) == 272 && offsetof(ketphiroj_board, settings) == 544, "board");
 _Static_assert(sizeof(ketphiroj_board) == 552, "board");
 _Static_assert(offsetof(ketphiroj_started, board) == 8 && sizeof(ketphiroj_started) == 560, "started");
+_Static_assert(offsetof(ketphiroj_started_in_place, settings) == 0, "started in place");
+_Static_assert(offsetof(ketphiroj_started_in_place, number) == 8, "started in place");
+_Static_assert(sizeof(ketphiroj_started_in_place) == 12, "started in place");
 _Static_assert(offsetof(ketphiroj_stepped, skipped) == 8 && offsetof(ketphiroj_stepped, held) == 16, "stepped");
 _Static_assert(offsetof(ketphiroj_stepped, settings) == 24 && offsetof(ketphiroj_stepped, number) == 32, "stepped");
 _Static_assert(offsetof(ketphiroj_stepped, saved) == 33 && sizeof(ketphiroj_stepped) == 40, "stepped");
@@ -301,6 +304,74 @@ static void arrays_are_measured(void) {
     agree(s.settings.baud == 9600 && s.settings.accelerometer == 3 && s.settings.gyroscope == 7, "settings answered");
 }
 
+/* A board of no zero byte, with counts and settings that no start answers. */
+static ketphiroj_board dirty_board(void) {
+    ketphiroj_board board;
+    memset(board.first.bytes, 0x31, sizeof board.first.bytes);
+    memset(board.second.bytes, 0x62, sizeof board.second.bytes);
+    board.first.held = 0x1122334455667788;
+    board.second.held = 260;
+    board.settings = (ketphiroj_settings){0x12345678, 0x9A, 0xBC};
+    return board;
+}
+
+/* A start in place leaves the board that a start by value answers, with the same number, and the page as it was. */
+static void same_start(const uint8_t *given, size_t length, const char *what) {
+    ketphiroj_started started = ketphiroj_start(given, length);
+    ketphiroj_board board = dirty_board();
+    uint8_t before[KETPHIROJ_PAGE_SIZE + 1];
+    memcpy(before, given, length);
+    agree(ketphiroj_start_board(&board, given, length) == started.number && same_board(board, started.board), what);
+    agree(memcmp(before, given, length) == 0, "the page that a board starts on");
+}
+
+/* On a page of four entries, a blank one, and ones that are refused, where the board becomes the factory's. */
+static void starts_in_place(void) {
+    uint8_t given[KETPHIROJ_PAGE_SIZE + 1];
+    memset(given, 0xFF, sizeof given);
+    same_start(given, KETPHIROJ_PAGE_SIZE, "a start in place on a blank page");
+    ketphiroj_values values = {true, 921600, true, 4, true, 7, true, 0xFEDCBA98};
+    agree(ketphiroj_write_page(values, given, KETPHIROJ_PAGE_SIZE) == KETPHIROJ_DONE, "a page of four entries");
+    same_start(given, KETPHIROJ_PAGE_SIZE, "a start in place on four entries");
+    ketphiroj_board board = dirty_board();
+    agree(ketphiroj_start_board(&board, given, KETPHIROJ_PAGE_SIZE) == KETPHIROJ_DONE, "number of a start in place");
+    ketphiroj_settings now = board.settings;
+    agree(now.baud == 921600 && now.accelerometer == 4 && now.gyroscope == 7, "settings of a start in place");
+    same_start(given, KETPHIROJ_PAGE_SIZE - 1, "a start in place on 63 bytes");
+    same_start(given, KETPHIROJ_PAGE_SIZE + 1, "a start in place on 65 bytes");
+    given[0] = 5;
+    same_start(given, KETPHIROJ_PAGE_SIZE, "a start in place on an unsound page");
+    agree(ketphiroj_start_board(&board, given, KETPHIROJ_PAGE_SIZE) == KETPHIROJ_BAD_PAGE, "number 20 in place");
+    agree(ketphiroj_start_board(&board, given, KETPHIROJ_PAGE_SIZE - 1) == KETPHIROJ_PAGE_LENGTH, "number 19 in place");
+}
+
+/* Whether all bytes of a port of `dirty_board`, and the one behind them, are as they were. */
+static bool untouched(const uint8_t *bytes, uint8_t filling) {
+    bool same = true;
+    for (size_t i = 0; i < KETPHIROJ_PORT_ROOM + 1; i++) {
+        same = same && bytes[i] == filling;
+    }
+    return same;
+}
+
+/* Arrays of which one is not 260 bytes are refused before the page is looked at: nothing is written. */
+static void started_arrays_are_measured(void) {
+    static const size_t lengths[][2] = {{0, 260}, {259, 260}, {261, 260}, {260, 0}, {260, 259}, {260, 261}, {259, 261}};
+    uint8_t first[KETPHIROJ_PORT_ROOM + 1], second[KETPHIROJ_PORT_ROOM + 1], kept[KETPHIROJ_PAGE_SIZE];
+    memset(first, 0x31, sizeof first);
+    memset(second, 0x62, sizeof second);
+    ketphiroj_values values = {true, 921600, true, 4, true, 7, false, 0};
+    agree(ketphiroj_write_page(values, kept, sizeof kept) == KETPHIROJ_DONE, "a page of three entries");
+    for (size_t i = 0; i < sizeof lengths / sizeof lengths[0]; i++) {
+        size_t page_length = i % 2 == 0 ? sizeof kept : sizeof kept - 1;
+        ketphiroj_started_in_place s = ketphiroj_start_in_place(
+            first, lengths[i][0], second, lengths[i][1], kept, page_length);
+        agree(s.number == KETPHIROJ_BAD_BOARD, "a start of an array that is not 260 bytes");
+        agree(s.settings.baud == 115200 && s.settings.accelerometer == 2 && s.settings.gyroscope == 3, "settings of 17");
+        agree(untouched(first, 0x31) && untouched(second, 0x62), "arrays of a refused start");
+    }
+}
+
 /* A numbered command, each argument in its place, taken by a board; the page keeps the number. */
 static void numbers_pass(void) {
     static const uint8_t expected[] = {
@@ -336,6 +407,8 @@ int main(void) {
     patterns_pass();
     settings_come_back();
     arrays_are_measured();
+    starts_in_place();
+    started_arrays_are_measured();
     numbers_pass();
     printf("layout: %d agree, %d differ\n", agreeing, differing);
     return differing != 0;

@@ -25,12 +25,11 @@ static void expect(bool holds, const char *what) {
     }
 }
 
-/* Power on: the board starts on the stored page, and nothing else is left. */
+/* Power on: the board starts on the stored page, and of what it held nothing is left. */
 static void power_on(void) {
     memcpy(page, stored, sizeof page);
-    ketphiroj_started started = ketphiroj_start(page, sizeof page);
-    expect(started.number == KETPHIROJ_DONE, "the stored page is blank or sound");
-    board = started.board;
+    uint8_t number = ketphiroj_start_board(&board, page, sizeof page);
+    expect(number == KETPHIROJ_DONE, "the stored page is blank or sound");
 }
 
 /* The settings and the number that the page keeps. */

@@ -125,6 +125,46 @@ impl Board {
         Ok(started.board)
     }
 
+    /// Starts the board where it stands, whatever it holds: afterwards it is the one that [`Board::start`] gives. It takes
+    /// less stack, since no board is handed over by value.
+    ///
+    /// Refuses with [`Refusal::PageLength`] and [`Refusal::Page`]; the board then has two fresh ports and the factory's
+    /// settings.
+    ///
+    /// ```
+    /// use ketphiroj::{Board, Port, Refusal, Settings};
+    ///
+    /// let mut page = [0xFF; 64];
+    /// let mut room = [0; Board::REPLY];
+    /// let mut board = Board::start(&page)?;
+    ///
+    /// // The accelerometer's range is set to 4, and then comes the front of another message, which is held.
+    /// let set = [0xA5, 0xA5, 0x02, 0x04, 0x07, 0x02, 0x01, 0x04, 0x5E, 0xF3];
+    /// board.feed(0, &set, &mut room, &mut page)?;
+    /// board.feed(0, &set[..5], &mut room, &mut page)?;
+    /// assert_eq!((board.settings.accelerometer, board.first.held), (4, 5));
+    ///
+    /// // Neither is on the page, so that a start forgets them.
+    /// board.start_in_place(&page)?;
+    /// assert_eq!((board.settings.accelerometer, board.first.held), (2, 0));
+    /// assert_eq!(board, Board::start(&page)?);
+    ///
+    /// // So does a start that is refused.
+    /// board.feed(0, &set, &mut room, &mut page)?;
+    /// board.feed(1, &set[..5], &mut room, &mut page)?;
+    /// assert_eq!(board.start_in_place(&[0x00; 64]), Err(Refusal::Page));
+    /// let factory = Settings { baud: 115200, accelerometer: 2, gyroscope: 3 };
+    /// assert_eq!(board, Board { first: Port::new(), second: Port::new(), settings: factory });
+    /// # Ok::<(), Refusal>(())
+    /// ```
+    pub fn start_in_place(&mut self, page: &[u8]) -> Result<(), Refusal> {
+        let started = ffi::start_in_place(&mut self.first.bytes, &mut self.second.bytes, page);
+        self.first.held = 0;
+        self.second.held = 0;
+        self.settings = started.settings;
+        done_or_refused(started.number)
+    }
+
     /// Feeds a chunk to port 0 or 1: takes bytes up to the end of the first message, handles it and writes its reply to
     /// the room's front, or takes the whole chunk where there is none. A save writes the page. Bytes that open no
     /// message are skipped without a reply; so are stray A5 in front of one.
@@ -143,7 +183,8 @@ impl Board {
     /// So no number is ever accepted twice over one page, whatever is fed and however often the board starts anew. Over a
     /// power cut that holds only if the page is stored where `saved` says so, whole or not at all, **before the reply is
     /// sent** and the settings are put to use: a number that was answered and is not on the stored page would be accepted
-    /// again. The board is to be started on the page that was stored last, and nobody else may write or erase it.
+    /// again. The board is to be started on the page that was stored last, and nobody else may write or erase it. What is
+    /// lent is a copy of it: while a feed writes the page, it is blank for a moment.
     ///
     /// Refuses with [`Refusal::Port`], [`Refusal::Unsound`], [`Refusal::Room`], [`Refusal::PageLength`] and
     /// [`Refusal::Page`], the first that applies; the board is then as it was.

@@ -22,6 +22,16 @@ pub struct Started {
     pub board: Board,
 }
 
+/// What starting in place answers. Where it is refused, the settings are the factory's.
+#[derive(Clone, Copy, Debug, PartialEq, Eq)]
+#[repr(C)]
+pub struct StartedInPlace {
+    /// The working values now.
+    pub settings: Settings,
+    /// 0, 17, 19 or 20.
+    pub number: u8,
+}
+
 /// What a feed answers. Where it is refused, the counts are 0, and the held count and the settings are the ones given.
 #[derive(Clone, Copy, Debug, PartialEq, Eq)]
 #[repr(C)]
@@ -120,6 +130,14 @@ pub struct FlatPage {
 
 extern "C" {
     fn ketphiroj_start(page: *const u8, page_length: usize) -> Started;
+    fn ketphiroj_start_in_place(
+        first: *mut u8,
+        first_length: usize,
+        second: *mut u8,
+        second_length: usize,
+        page: *const u8,
+        page_length: usize,
+    ) -> StartedInPlace;
     fn ketphiroj_feed_in_place(
         port: u8,
         bytes: *mut u8,
@@ -198,6 +216,23 @@ extern "C" {
 pub fn start(page: &[u8]) -> Started {
     // SAFETY: `page` is valid for reads of its length during the call.
     unsafe { ketphiroj_start(page.as_ptr(), page.len()) }
+}
+
+/// Starts a board whose ports have these bytes, which are cleared: 17 where one of them is not 260 bytes, and nothing is
+/// written; 19, 20, and they are cleared all the same. The held counts and the settings are the caller's to put in.
+pub fn start_in_place(first: &mut [u8], second: &mut [u8], page: &[u8]) -> StartedInPlace {
+    // SAFETY: `first` and `second` are valid for reads and writes of their lengths, `page` for reads of its own, and no
+    // two of them overlap, as their borrows say.
+    unsafe {
+        ketphiroj_start_in_place(
+            first.as_mut_ptr(),
+            first.len(),
+            second.as_mut_ptr(),
+            second.len(),
+            page.as_ptr(),
+            page.len(),
+        )
+    }
 }
 
 /// Feeds a chunk to a port of a board, which may be of any contents and stays where it is: only the named port's bytes are
@@ -338,6 +373,8 @@ const _: () = {
     assert!(size_of::<Settings>() == 8 && offset_of!(Settings, gyroscope) == 5);
     assert!(size_of::<Board>() == 552 && offset_of!(Board, settings) == 544);
     assert!(size_of::<Started>() == 560 && offset_of!(Started, board) == 8);
+    assert!(size_of::<StartedInPlace>() == 12 && offset_of!(StartedInPlace, settings) == 0);
+    assert!(offset_of!(StartedInPlace, number) == 8);
     assert!(size_of::<Stepped>() == 40 && offset_of!(Stepped, number) == 32 && offset_of!(Stepped, saved) == 33);
     assert!(size_of::<Written>() == 16 && offset_of!(Written, length) == 8);
     assert!(size_of::<FlatReply>() == 12 && offset_of!(FlatReply, value) == 8);

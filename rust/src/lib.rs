@@ -9,6 +9,7 @@
 //! | Call | What it does |
 //! |---|---|
 //! | [`Board::start`], [`Board::feed`] | the board: bytes in, replies out, settings and the start-up page kept |
+//! | [`Board::start_in_place`] | the same start where a board stands, with less stack |
 //! | [`check_message`], [`write_message`] | one whole message |
 //! | [`write_command`], [`write_numbered`], [`append_field`], [`read_reply`], [`read_rows`] | the controller's side |
 //! | [`read_field`], [`field_data`], [`write_data`], [`write_data_bits`] | the data message |

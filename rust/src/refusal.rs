@@ -3,7 +3,8 @@
 use std::error::Error;
 use std::fmt;
 
-/// Why a call refused: the paper's numbers 16 to 28. A refused call writes nothing and changes nothing.
+/// Why a call refused: the paper's numbers 16 to 28. A refused call writes nothing and changes nothing; only
+/// [`Board::start_in_place`](crate::Board::start_in_place) clears the board all the same.
 ///
 /// ```
 /// use ketphiroj::{check_message, Refusal};

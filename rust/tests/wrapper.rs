@@ -1,9 +1,9 @@
-//! The paper's sample lines through the wrapper, every refusal, and numbered commands over a power cut.
+//! The paper's sample lines through the wrapper, starts in place, every refusal, and numbered commands over a power cut.
 
 use ketphiroj::{
     append_field, check_message, check_page, code, copy_body, factory_page, field_data, function, read_field,
-    read_reply, read_rows, write_command, write_data, write_message, write_numbered, Board, Outcome, Refusal, Reply,
-    Settings, Values, NUMBERED, PAGE,
+    read_reply, read_rows, write_command, write_data, write_message, write_numbered, Board, Outcome, Port, Refusal,
+    Reply, Settings, Values, NUMBERED, PAGE,
 };
 
 const BLANK: [u8; PAGE] = [0xFF; PAGE];
@@ -384,6 +384,65 @@ fn numbered_commands_refused() {
         assert_eq!(outcome, Outcome::Reported { taken: bytes.len(), skipped: 1, saved: false, reply: 10 });
         assert_eq!((room[6..8].to_vec(), page), (vec![0, 1], BLANK));
     }
+}
+
+/// Boards that no start gives: sound ones that hold bytes on other settings, and one that a feed would refuse.
+fn dirty_boards() -> [Board; 3] {
+    let settings = Settings { baud: 9600, accelerometer: 1, gyroscope: 1 };
+    let (full, empty) = (Port { bytes: [0xA5; 260], held: 260 }, Port { bytes: [0x77; 260], held: 0 });
+    let unsound = Settings { baud: 0, accelerometer: 0xFF, gyroscope: 0 };
+    [
+        Board { first: full, second: empty, settings },
+        Board { first: empty, second: full, settings },
+        Board { first: Port { held: usize::MAX, ..full }, second: Port { held: 261, ..full }, settings: unsound },
+    ]
+}
+
+/// A start in place gives the board of a start by value, from a board of any contents. Where the start is refused, that
+/// is the factory's board, as a blank page gives it.
+#[test]
+fn starts_in_place() {
+    let page = |baud, accelerometer, gyroscope, last_number| {
+        let mut page = BLANK;
+        Values { baud, accelerometer, gyroscope, last_number }.write(&mut page).unwrap();
+        page
+    };
+    let (mut unsound, factory) = (factory_page(), fresh().0);
+    unsound[14] = 5;
+    let pages = [
+        BLANK,
+        factory_page(),
+        page(Some(921600), Some(4), Some(7), Some(u32::MAX)),
+        page(None, Some(4), None, None),
+        page(None, None, None, Some(0)),
+        unsound,
+        [0; PAGE],
+    ];
+    let lengths = pages.iter().flat_map(|page| [&page[..], &page[1..], &page[..0]]);
+    for (given, mut board) in lengths.flat_map(|given| dirty_boards().map(|board| (given, board))) {
+        let started = Board::start(given);
+        assert_eq!(board.start_in_place(given), started.map(|_| ()), "{given:02X?}");
+        assert_eq!(board, started.unwrap_or(factory), "{given:02X?}");
+    }
+    assert_eq!(Board::start(&pages[2]).unwrap().settings, Settings { baud: 921600, accelerometer: 4, gyroscope: 7 });
+    assert_eq!(dirty_boards()[0].start_in_place(&unsound), Err(Refusal::Page));
+    assert_eq!(dirty_boards()[0].start_in_place(&BLANK[1..]), Err(Refusal::PageLength));
+}
+
+/// A board that is started in place answers as a fresh one: nothing that it held is left, and a save that was stored is
+/// used.
+#[test]
+fn restart_in_place() {
+    let (mut board, mut page) = fresh();
+    let set = command(function::USE, &[(code::GYROSCOPE, 7)]);
+    let save = command(function::SAVE, &[(code::GYROSCOPE, 0)]);
+    assert_eq!(replies(&mut board, &[set, save].concat(), &mut page).len(), 2);
+    let ping = hex("A5A5010202004F25");
+    assert!(replies(&mut board, &ping[..7], &mut page).is_empty());
+    board.start_in_place(&page).unwrap();
+    assert_eq!((board.first.held, board.settings.gyroscope), (0, 7));
+    assert!(replies(&mut board, &ping[7..], &mut page).is_empty());
+    assert_eq!(replies(&mut board, &ping, &mut page), [hex("A5A5010480020200D3CF")]);
 }
 
 /// A refused feed leaves board, room and page as they were.

@@ -1,4 +1,4 @@
--- A feed in place: its tests, and that it is the feed of the board.
+-- A feed in place: its tests, and that it is the feed of the board; and that a start in place is the start.
 use mathlib.Core.Bool.{Bool, true, false, not}
 use mathlib.Core.List.{List}
 use mathlib.Core.Path.{_≡_, refl, sym, _∙_}
@@ -12,8 +12,10 @@ use Rattle.board.specs.declared.board.Board.{Board}
 use Rattle.board.specs.declared.feeding.Stepped.{Stepped}
 use Rattle.board.specs.Port.{portRoom, heldBytes, portHolding, portOf}
 use Rattle.message.specs.Whole.{refuse}
+use Rattle.board.specs.Start.{startOn, startOf, startInPlace, startPlaceOf}
+use Rattle.page.specs.Sound.{pageNumber}
 use Rattle.board.specs.Feed.{PortStep, feedNumber, refusedFeeding, refusedStepping, stepOf, feedOn, acceptOn, feedOf, inPlace, namedHeld, placeNumber, placeOn, placeOf}
-use Rattle.board.specs.AnyBoard.{putBack, InPlaceIsFeed}
+use Rattle.board.specs.InPlace.{putBack, InPlaceIsFeed, putIn, InPlaceIsStart}
 use Rattle.board.proofs.Places.{passes}
 use Rattle.board.proofs.Feedings.{SoundParts, passed-parts}
 
@@ -108,3 +110,11 @@ in-place-is-feed port b chunk room page l =
     go : (n : ℕ) → putBack port b (placeOn n port (portOf port b .bytes) (portOf port b .held) (b .settings) chunk room page) ≡ acceptOn n port b chunk room page
     go zero = put-done port b (stepOf port (heldBytes (portOf port b)) (b .settings) chunk room page)
     go (suc n) = put-refused port b (suc n) room page
+
+pub in-place-is-start : InPlaceIsStart
+unfolding startPlaceOf startOf
+in-place-is-start first second page l m = rw (eq-eqb (length first) portRoom l, eq-eqb (length second) portRoom m) (go (pageNumber page))
+  where
+    go : (n : ℕ) → putIn (startInPlace (startOn n page)) ≡ startOn n page
+    go zero = refl
+    go (suc n) = refl

@@ -97,16 +97,14 @@ module _ (b chunk : List ℕ) (held : ℕ) (few : held ≤ 260) (long : length b
 
     pub found-step : (port : ℕ) (w : Settings) (room page : List ℕ) (a : Answer) (roomAfter pageAfter : List ℕ)
         → record { answer = a; room = roomAfter; page = pageAfter } ≡ answering port (receivedOf good (drop k (take held b ++ chunk))) w room page
-        → (t : ℕ) → t ≡ k + n - held
-        → (sk : ℕ) → sk ≡ skippedBy k good
         → (l : ℕ) → l ≡ length (leftOf k n good (take held b) chunk)
         → (y : List ℕ) → y ≡ padded (leftOf k n good (take held b) chunk)
-        → record { step = record { number = 0; taken = t; skipped = sk; saved = a .saved; held = l; settings = a .settings }; bytes = y; room = roomAfter; page = pageAfter }
-        ≡ inPlace (stepOf port (take held b) w chunk room page)
+        → (r : Stepped) → r ≡ record { number = 0; taken = k + n - held; skipped = skippedBy k good; saved = a .saved; held = l; settings = a .settings }
+        → record { step = r; bytes = y; room = roomAfter; page = pageAfter } ≡ inPlace (stepOf port (take held b) w chunk room page)
     unfolding stepOf
-    found-step port w room page a roomAfter pageAfter g t ts sk sks l ls y ys =
+    found-step port w room page a roomAfter pageAfter g l ls y ys r rs =
         let h : k + n - length (take held b) ≡ k + n - held = ap (λ (i : ℕ). k + n - i) held-long in
-        rw (e, ys, ls, sks, ts, ← h)
+        rw (rs, e, ys, ls, ← h)
         (ap (λ (g : Answering). record {
           step = record { number = 0; taken = k + n - length (take held b); skipped = skippedBy k good; saved = g .answer .saved; held = length (leftOf k n good (take held b) chunk); settings = g .answer .settings };
           bytes = padded (leftOf k n good (take held b) chunk);

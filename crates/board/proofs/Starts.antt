@@ -6,9 +6,9 @@ use native.Mathlib.Numerals.{add-one}
 use mathlib.Core.Path.{_≡_, refl, sym, ap, _∙_}
 use mathlib.Core.Bool.{Bool, true, false, not}
 use mathlib.Core.List.{List, _++_}
-use lib.ListN.{length, take, drop, length-drop}
+use lib.ListN.{length, take, drop, replicate, length-drop}
 use lib.Seq.{take-all, take-add, drop-at, drop-append-le, length-take-le}
-use borrow.Author.Tests.{lt-ltb, le-ltb}
+use borrow.Author.Tests.{lt-ltb, le-ltb, eq-eqb, ne-eqb}
 use Rattle.stream.specs.Seek.{resume, skippedBy}
 use Rattle.message.proofs.Windows.{drop-chunk}
 use Rattle.page.specs.Sound.{pageNumber}
@@ -16,29 +16,47 @@ use Rattle.command.specs.declared.settings.Settings.{Settings}
 use Rattle.command.specs.Outcome.{receivedOf}
 use Rattle.command.specs.Answer.{settingsFrom, Answering, answering}
 use Rattle.command.specs.Effects.{settingsAllowed}
-use Rattle.board.specs.declared.board.Board.{Board}
 use Rattle.board.specs.declared.port.Port.{Port}
 use Rattle.board.specs.Port.{freshPort}
-use Rattle.board.specs.Start.{factorySettings, freshBoard, startOn, startOf}
+use Rattle.board.specs.Start.{factorySettings, freshBoard, startOn, startOf, startPlaceOf}
 use Rattle.board.specs.Feed.{unsound, feedNumber}
 
 -- ---- starting
 
-pub fresh-made : (w : Settings) (a b : Port) → a ≡ freshPort → b ≡ freshPort → record { first = a; second = b; settings = w } ≡ freshBoard w
-fresh-made w a b p q = rw (p, q)
+pub settings-refused : (page : List ℕ) (n : ℕ) → (n ≡ 0 → ⊥) → (w : Settings) → w ≡ factorySettings → w ≡ startOn n page .board .settings
+settings-refused page zero h w e = absurd (h refl)
+settings-refused page (suc n) h w e = e
 
-module _ (page : List ℕ) (n : ℕ) (ns : n ≡ pageNumber page) (b : Board) (w : Settings) (bs : b ≡ freshBoard w) where
-  pub start-refused : (n ≡ 0 → ⊥) → w ≡ factorySettings → record { number = n; board = b } ≡ startOf page
+pub settings-loaded : (page : List ℕ) (n : ℕ) → n ≡ 0 → (w : Settings) → w ≡ settingsFrom page → w ≡ startOn n page .board .settings
+settings-loaded page n z w e = rw z e
+
+module _ (page : List ℕ) (n : ℕ) (ns : n ≡ pageNumber page) (w : Settings) (ws : w ≡ startOn n page .board .settings) where
+  pub start-made : record { number = n; board = freshBoard w } ≡ startOf page
   unfolding startOf
-  start-refused h ws = rw (bs, ws, ← ns) (go n h)
+  start-made = rw (ws, ← ns) (go n)
     where
-      go : (n : ℕ) → (n ≡ 0 → ⊥) → record { number = n; board = freshBoard factorySettings } ≡ startOn n page
-      go zero h = absurd (h refl)
-      go (suc n) h = refl
+      go : (n : ℕ) → record { number = n; board = freshBoard (startOn n page .board .settings) } ≡ startOn n page
+      go zero = refl
+      go (suc n) = refl
 
-  pub start-done : n ≡ 0 → w ≡ settingsFrom page → record { number = 0; board = b } ≡ startOf page
-  unfolding startOf
-  start-done z ws = rw (bs, ws, ← ns, z)
+  pub start-fresh : (a b : Port) → a ≡ freshPort → b ≡ freshPort → record { number = n; board = record { first = a; second = b; settings = w } } ≡ startOf page
+  start-fresh a b p q = rw (p, q) start-made
+
+  module _ (first second : List ℕ) (fs : length first ≡ 260) (ss : length second ≡ 260) where
+    pub place-made : (a b : List ℕ) → a ≡ take 0 first ++ replicate (260 - 0) 0 → b ≡ take 0 second ++ replicate (260 - 0) 0
+        → record { answer = record { settings = w; number = n }; first = a; second = b } ≡ startPlaceOf first second page
+    unfolding startPlaceOf
+    place-made a b p q = rw (eq-eqb (length first) 260 fs, eq-eqb (length second) 260 ss, ← start-made, p, q)
+
+module _ (first second page : List ℕ) (w : Settings) (ws : w ≡ factorySettings) where
+  pub place-first : (length first ≡ 260 → ⊥) → record { answer = record { settings = w; number = 17 }; first = first; second = second } ≡ startPlaceOf first second page
+  unfolding startPlaceOf
+  place-first h = rw (ne-eqb (length first) 260 h, ws)
+
+  pub place-second : length first ≡ 260 → (length second ≡ 260 → ⊥)
+      → record { answer = record { settings = w; number = 17 }; first = first; second = second } ≡ startPlaceOf first second page
+  unfolding startPlaceOf
+  place-second e h = rw (eq-eqb (length first) 260 e, ne-eqb (length second) 260 h, ws)
 
 -- ---- the tests of a feed
 
@@ -81,9 +99,6 @@ module _ (k n : ℕ) (good : Bool) where
   resume-damaged e = rw (e, add-one)
 
 module _ (k : ℕ) (good : Bool) where
-  pub skipped-good : good ≡ true → k ≡ skippedBy k good
-  skipped-good e = rw e
-
   pub skipped-damaged : good ≡ false → k + 1 ≡ skippedBy k good
   skipped-damaged e = rw (e, add-one)
 

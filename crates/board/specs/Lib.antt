@@ -4,6 +4,7 @@ pub mod Examples
 pub mod Feed
 pub mod Handling
 pub mod Histories
+pub mod InPlace
 pub mod Port
 pub mod Restarts
 pub mod Runs

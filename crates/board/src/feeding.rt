@@ -142,6 +142,23 @@ fn step_starved(bytes: &mut [u8], held: usize, chunk: &[u8], k: usize, w: Settin
     }
 }
 
+// What a step answers that found a message behind `k` bytes, `n` long, and keeps `left` bytes. What follows from the message's place
+// is computed here, behind its answer, so that it need not be kept over that.
+fn reported(held: usize, k: usize, n: usize, good: bool, a: Answer, left: usize) -> Stepped
+    requires { ⌜ (k + n < 18446744073709551616) × (1 ≤ n) ⌝ }
+    ensures { λ r. ⌜ r ≡ record { number = 0; taken = k + n - held; skipped = skippedBy k good; saved = a .saved; held = left; settings = a .settings } ⌝ }
+{
+    let settings = a.settings;
+    Stepped {
+        number: 0,
+        taken: excess(k + n, held),
+        skipped: skipped_with(k, good),
+        saved: a.saved,
+        held: left,
+        settings,
+    }
+}
+
 // A step where a message is found: it is handled, and bytes are taken up to its end.
 fn step_found(
     port: u8,
@@ -159,18 +176,9 @@ fn step_found(
     requires { ⌜ seek front (take held (now bytes) ++ now chunk) ≡ Found k n good ⌝ }
     ensures { λ r. ⌜ record { step = r; bytes = now (bytes .exit); room = now (room .exit); page = now (page .exit) } ≡ inPlace (stepOf port (take held (now (bytes .entry))) w (now (chunk .entry)) (now (room .entry)) (now (page .entry))) ⌝ }
 {
-    let taken = excess(k + n, held);
-    let skipped = skipped_with(k, good);
     let a = answer_at(port, bytes, held, chunk, k, good, w, room, page);
-    let settings = a.settings;
-    Stepped {
-        number: 0,
-        taken,
-        skipped,
-        saved: a.saved,
-        held: keep_after(bytes, held, chunk, k, n, good),
-        settings,
-    }
+    let left = keep_after(bytes, held, chunk, k, n, good);
+    reported(held, k, n, good, a, left)
 }
 
 // One accepted feed of a port, in its array.

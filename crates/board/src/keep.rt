@@ -49,7 +49,8 @@ fn shift(bytes: &mut [u8], held: usize, chunk: &[u8], from: usize, n: usize)
     copy_in(bytes, kept, chunk, 0, n - kept);
 }
 
-fn clear_from(bytes: &mut [u8], n: usize)
+// Clears the array from `n` on.
+pub(crate) fn clear_from(bytes: &mut [u8], n: usize)
     requires { ⌜ (n ≤ 260) × (length (now bytes) ≡ 260) ⌝ }
     ensures { λ _. ⌜ now (bytes .exit) ≡ take n (now (bytes .entry)) ++ replicate (260 - n) 0 ⌝ }
 {

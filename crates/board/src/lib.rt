@@ -13,4 +13,6 @@ pub use feeding::Stepped;
 pub use feeding::feed;
 pub use feeding::feed_in_place;
 pub use port::Port;
+pub use starting::StartedInPlace;
 pub use starting::start;
+pub use starting::start_in_place;

@@ -1,43 +1,82 @@
 // Starting.
 ghost use mathlib.Core.Path.{_≡_};
-ghost use Rattle.board.specs.Start.{factorySettings, freshBoard, startOf};
+ghost use Rattle.board.specs.Start.{factorySettings, startOn, startOf, startPlaceOf};
 use crate::board::Board;
 use crate::board::Started;
+use crate::keep::clear_from;
 use crate::port::Port;
 use command::Settings;
 use command::settings_from;
+use page::Setting;
 
 fn factory_settings() -> Settings
     ensures { λ r. ⌜ r ≡ factorySettings ⌝ }
 {
+    let baud = page::factory_value(Setting::Baud);
+    let accelerometer = page::factory_value(Setting::Accelerometer);
+    let gyroscope = page::factory_value(Setting::Gyroscope);
     Settings {
-        baud: 115200,
-        accelerometer: 2,
-        gyroscope: 3,
+        baud,
+        accelerometer: accelerometer as u8,
+        gyroscope: gyroscope as u8,
     }
 }
 
-fn fresh_board(w: Settings) -> Board
-    ensures { λ r. ⌜ r ≡ freshBoard w ⌝ }
+// The settings of a start: those that the page keeps, or the factory's where the page is refused.
+fn start_settings(number: u8, page: &[u8]) -> Settings
+    ensures { λ r. ⌜ r ≡ startOn number (now (page .entry)) .board .settings ⌝ }
 {
-    let first = Port::new();
-    let second = Port::new();
-    Board {
-        first,
-        second,
-        settings: w,
+    if number != 0 {
+        return factory_settings();
     }
+    settings_from(page)
 }
 
-// Starts a board on the settings that the page keeps, or on the factory's where it has none.
+// Starts a board on the settings that the page keeps, or on the factory's where it has none. The answer is one expression: with a `let` for
+// the board or a port, that would stand on the stack beside the answer.
 pub fn start(page: &[u8]) -> Started
     ensures { λ r. ⌜ r ≡ startOf (now (page .entry)) ⌝ }
 {
     let number = page::check_page(page);
-    if number != 0 {
-        let board = fresh_board(factory_settings());
-        return Started { number, board };
+    let settings = start_settings(number, page);
+    Started {
+        number,
+        board: Board {
+            first: Port::new(),
+            second: Port::new(),
+            settings,
+        },
     }
-    let board = fresh_board(settings_from(page));
-    Started { number: 0, board }
+}
+
+// What a start in place answers. Both ports hold nothing; their bytes stay in their arrays.
+#[repr(C)]
+pub struct StartedInPlace {
+    pub settings: Settings,
+    // document 01's number
+    pub number: u8,
+}
+
+// A start for a caller that keeps the board: `first` and `second` are the arrays of its ports, which are written in place, and
+// the answer has the settings.
+pub fn start_in_place(first: &mut [u8], second: &mut [u8], page: &[u8]) -> StartedInPlace
+    ensures { λ r. ⌜ record { answer = r; first = now (first .exit); second = now (second .exit) } ≡ startPlaceOf (now (first .entry)) (now (second .entry)) (now (page .entry)) ⌝ }
+{
+    if first.len() != Port::ROOM {
+        return StartedInPlace {
+            settings: factory_settings(),
+            number: 17,
+        };
+    }
+    if second.len() != Port::ROOM {
+        return StartedInPlace {
+            settings: factory_settings(),
+            number: 17,
+        };
+    }
+    let number = page::check_page(page);
+    let settings = start_settings(number, page);
+    clear_from(first, 0);
+    clear_from(second, 0);
+    StartedInPlace { settings, number }
 }

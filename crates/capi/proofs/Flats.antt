@@ -28,9 +28,9 @@ pub reply-flat : (r s : Reply) → r ≡ s → (b : Bool) → b ≡ isThere (r .
     → record { number = r .number; kind = r .kind; echo = r .echo; error = r .error; «has_value» = b; value = x } ≡ flatReply s
 reply-flat r s e b p x q = rw (p, q) (ap flatReply e)
 
-pub values-flat : (v w : Values) → v ≡ w → (b₁ b₂ b₃ b₄ : Bool) (x₁ x₂ x₃ x₄ : ℕ)
-    → b₁ ≡ isThere (v .baud) → x₁ ≡ numberIn (v .baud) → b₂ ≡ isThere (v .accelerometer) → x₂ ≡ numberIn (v .accelerometer)
-    → b₃ ≡ isThere (v .gyroscope) → x₃ ≡ numberIn (v .gyroscope) → b₄ ≡ isThere (v .number) → x₄ ≡ numberIn (v .number)
+pub values-flat : (v : Values) (b a g n : Stored) → b ≡ v .baud → a ≡ v .accelerometer → g ≡ v .gyroscope → n ≡ v .number
+    → (b₁ b₂ b₃ b₄ : Bool) (x₁ x₂ x₃ x₄ : ℕ)
+    → b₁ ≡ isThere b → x₁ ≡ numberIn b → b₂ ≡ isThere a → x₂ ≡ numberIn a → b₃ ≡ isThere g → x₃ ≡ numberIn g → b₄ ≡ isThere n → x₄ ≡ numberIn n
     → record {
       «has_baud» = b₁;
       baud = x₁;
@@ -40,8 +40,8 @@ pub values-flat : (v w : Values) → v ≡ w → (b₁ b₂ b₃ b₄ : Bool) (x
       gyroscope = x₃;
       «has_last_number» = b₄;
       «last_number» = x₄;
-    } ≡ flatValues w
-values-flat v w e b₁ b₂ b₃ b₄ x₁ x₂ x₃ x₄ p₁ q₁ p₂ q₂ p₃ q₃ p₄ q₄ = rw (p₁, q₁, p₂, q₂, p₃, q₃, p₄, q₄) (ap flatValues e)
+    } ≡ flatValues v
+values-flat v b a g n e₁ e₂ e₃ e₄ b₁ b₂ b₃ b₄ x₁ x₂ x₃ x₄ p₁ q₁ p₂ q₂ p₃ q₃ p₄ q₄ = rw (p₁, q₁, p₂, q₂, p₃, q₃, p₄, q₄, e₁, e₂, e₃, e₄)
 
 pub values-made : (f : FlatValues) (b a g n : Stored) → b ≡ storedFrom (f .«has_baud») (f .baud)
     → a ≡ storedFrom (f .«has_accelerometer») (f .accelerometer) → g ≡ storedFrom (f .«has_gyroscope») (f .gyroscope)

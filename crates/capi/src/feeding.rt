@@ -1,9 +1,10 @@
 // The board: starting and feeding. The caller keeps it, and it is fed in place. A feed by value is left out: it would copy the
 // board three times, and a second caller of the step would keep the compiler from making one function of a whole feed.
 ghost use mathlib.Core.Path.{_≡_};
-ghost use Rattle.board.specs.Start.{startOf};
+ghost use Rattle.board.specs.Start.{startOf, startPlaceOf};
 ghost use Rattle.board.specs.Feed.{placeOf};
 use board::Started;
+use board::StartedInPlace;
 use board::Stepped;
 use command::Settings;
 
@@ -14,6 +15,21 @@ pub extern "C" fn ketphiroj_start(page: &[u8]) -> Started
     ensures { λ r. ⌜ r ≡ startOf (now (page .entry)) ⌝ }
 {
     board::start(page)
+}
+
+// Starts a board that the caller keeps, without a copy of it: `first` and `second` are the 260 bytes of its ports, which are cleared;
+// both hold nothing then. The answer has the settings that the page keeps; number 0. With 19 (not 64 bytes) or 20 (neither blank
+// nor sound) they are the factory's, and the ports are cleared all the same, as in the board of ketphiroj_start. 17: an array is not 260
+// bytes; nothing is written then.
+#[no_mangle]
+pub extern "C" fn ketphiroj_start_in_place(
+    first: &mut [u8],
+    second: &mut [u8],
+    page: &[u8],
+) -> StartedInPlace
+    ensures { λ r. ⌜ record { answer = r; first = now (first .exit); second = now (second .exit) } ≡ startPlaceOf (now (first .entry)) (now (second .entry)) (now (page .entry)) ⌝ }
+{
+    board::start_in_place(first, second, page)
 }
 
 // Feeds a chunk to port 0 or 1, without a copy of the board: `bytes` are the 260 bytes of the named port, written in place,

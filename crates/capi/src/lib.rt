@@ -10,6 +10,7 @@ mod samples;
 
 pub use feeding::ketphiroj_feed_in_place;
 pub use feeding::ketphiroj_start;
+pub use feeding::ketphiroj_start_in_place;
 pub use flat::FlatField;
 pub use flat::FlatPage;
 pub use flat::FlatReply;

@@ -12,6 +12,7 @@ use crate::flat::number_in;
 use crate::flat::stored_from;
 use message::Written;
 use message::write_bytes;
+use page::Setting;
 use page::Values;
 
 // 0 where the page is blank or sound; 19: not 64 bytes; 20: neither.
@@ -22,15 +23,15 @@ pub extern "C" fn ketphiroj_check_page(page: &[u8]) -> u8
     page::check_page(page)
 }
 
-// The values that a page holds, flat.
+// The values that a page holds, flat. They are read one by one: with a second caller of `values_of` the compiler would not put it into the
+// one function that writes a page, and that would have them in memory.
 fn flat_values(page: &[u8]) -> FlatValues
     ensures { λ r. ⌜ r ≡ flatValues (valuesIn (now (page .entry))) ⌝ }
 {
-    let values = page::values_of(page);
-    let baud = values.baud;
-    let accelerometer = values.accelerometer;
-    let gyroscope = values.gyroscope;
-    let number = values.number;
+    let baud = page::stored_value(page, Setting::Baud);
+    let accelerometer = page::stored_value(page, Setting::Accelerometer);
+    let gyroscope = page::stored_value(page, Setting::Gyroscope);
+    let number = page::last_number(page);
     FlatValues {
         has_baud: is_there(baud),
         baud: number_in(baud),

@@ -10,11 +10,7 @@ use lib.Dec.{eqb}
 use borrow.Author.Tests.{lt-ltb, le-ltb, ne-eqb}
 use Rattle.page.specs.declared.setting.Setting.{Setting}
 use Rattle.page.specs.declared.setting.Setting.the-variants.{Baud, Accelerometer, Gyroscope}
-use Rattle.page.specs.declared.setting.Values.{Values}
 use Rattle.page.specs.Settings.{factoryValue}
-use Rattle.page.specs.Page.{withValue}
-use Rattle.page.specs.Lookup.{valuesIn}
-use Rattle.page.specs.Sound.{PageWriting, pageWriting}
 use Rattle.message.specs.declared.write.Written.{Written}
 use Rattle.message.specs.Fields.{fieldsOf}
 use Rattle.message.specs.Message.{messageOf, typeOf, payloadOf}
@@ -55,10 +51,6 @@ pub factory-fits : (s : Setting) (x : ℕ) → x ≡ factoryValue s → Fits s x
 factory-fits Baud x e = omega arith
 factory-fits Accelerometer x e = omega arith
 factory-fits Gyroscope x e = omega arith
-
-pub saved-page : (page after : List ℕ) (s : Setting) (x n : ℕ) (v u : Values) → v ≡ valuesIn page → u ≡ withValue v s x
-    → record { number = n; page = after } ≡ pageWriting u page → after ≡ savedOn page s x
-saved-page page after s x n v u p q e = ap (λ (w : PageWriting). w .page) e ∙ rw (q, p)
 
 -- ---- the settings after a function
 

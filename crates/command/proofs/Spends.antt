@@ -11,10 +11,7 @@ use borrow.Author.Tests.{eq-eqb, ne-eqb, lt-ltb, le-ltb, ltb-false}
 use Rattle.word.specs.Word.{number, word}
 use Rattle.page.specs.declared.setting.Stored.{Stored}
 use Rattle.page.specs.declared.setting.Stored.the-variants.{Absent, Value}
-use Rattle.page.specs.declared.setting.Values.{Values}
-use Rattle.page.specs.Page.{isThere, withNumber}
-use Rattle.page.specs.Lookup.{valuesIn}
-use Rattle.page.specs.Sound.{PageWriting, pageWriting}
+use Rattle.page.specs.Page.{isThere}
 use Rattle.command.specs.Numbers.{numberedKind, numberOf, innerKind, innerPayload, isFresh, numberError}
 use Rattle.command.specs.Answer.{spentOn, numberOn}
 use Rattle.command.specs.declared.number.Opened.{Opened}
@@ -96,12 +93,6 @@ module _ (held chunk : List ℕ) (to : ℕ) where
 
   pub inner-payload : drop 9 (take to (held ++ chunk)) ≡ innerPayload payload
   inner-payload = sym (drop-drop 5 4 (take to (held ++ chunk)))
-
--- ---- spent
-
-pub number-put : (page after : List ℕ) (x n : ℕ) (v u : Values) → v ≡ valuesIn page → u ≡ withNumber v x
-    → record { number = n; page = after } ≡ pageWriting u page → after ≡ spentOn page x
-number-put page after x n v u p q e = ap (λ (w : PageWriting). w .page) e ∙ rw (q, p)
 
 -- ---- a message opened
 

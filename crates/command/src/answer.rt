@@ -41,14 +41,6 @@ pub struct Answer {
     pub settings: Settings,
 }
 
-// Puts a value in, keeps the page's other entries, and writes the page anew.
-fn save(setting: Setting, value: u32, page: &mut [u8])
-    ensures { λ _. ⌜ now (page .exit) ≡ savedOn (now (page .entry)) setting value ⌝ }
-{
-    let values = page::values_of(page);
-    page::write_page(page::with_value(values, setting, value), page);
-}
-
 // The settings after an accepted function: 1 takes the value sent, 4 the loaded and 5 the factory's, the others none.
 fn settings_after(function: u8, setting: Setting, sent: u32, w: Settings, page: &[u8]) -> Settings
     requires { ⌜ Fits setting sent ⌝ }
@@ -83,7 +75,7 @@ fn obey(c: Command, setting: Setting, p: Progress, room: &mut [u8], page: &mut [
         };
     }
     if function == 3 {
-        save(setting, working, page);
+        page::put_setting(setting, working, page);
         return Progress {
             end,
             saved: true,

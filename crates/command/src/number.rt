@@ -4,7 +4,7 @@ ghost use mathlib.Core.Bool.{false};
 ghost use mathlib.Core.List.{_++_};
 ghost use Prim.Native.Nat.{_+_, _-_, _≤_, _<_};
 ghost use lib.ListN.{length, take, drop};
-ghost use Rattle.command.specs.Answer.{numberOn, spentOn};
+ghost use Rattle.command.specs.Answer.{numberOn};
 ghost use Rattle.command.specs.Numbers.{isFresh, numberOf, numberError};
 ghost use Rattle.command.specs.Place.{openingOf};
 use message::byte_over;
@@ -46,14 +46,6 @@ fn number_error(held: &[u8], chunk: &[u8], to: usize, page: &[u8]) -> u8
     } else {
         5
     }
-}
-
-// Puts a number in, keeps the page's other entries, and writes the page anew.
-fn spend(number: u32, page: &mut [u8])
-    ensures { λ _. ⌜ now (page .exit) ≡ spentOn (now (page .entry)) number ⌝ }
-{
-    let values = page::values_of(page);
-    page::write_page(page::with_number(values, number), page);
 }
 
 // What a message comes to before any field: its error, or the command in it.
@@ -103,7 +95,7 @@ pub(crate) fn open_message(
     if error != 0 {
         return unnumbered(error, kind, 9);
     }
-    spend(number_in(held, chunk, to), page);
+    page::put_last_number(number_in(held, chunk, to), page);
     Opened {
         error: 0,
         kind: byte_over(held, chunk, 8),

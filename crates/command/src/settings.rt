@@ -4,6 +4,7 @@ ghost use Prim.Native.Nat.{_<_};
 ghost use lib.ListN.{getD};
 ghost use Rattle.command.specs.Answer.{loadedFrom, settingsFrom};
 ghost use Rattle.command.specs.Effects.{workingValue, withWorking, Fits, settingsAllowed};
+use page::Entry;
 use page::Setting;
 
 #[repr(C)]
@@ -64,12 +65,17 @@ fn first_byte(s: &[u8]) -> u8
     if 0 < s.len() { s[0] } else { 0 }
 }
 
-// What is loaded of a setting: the body on the page if it has the entry, else the one on the factory page.
+// What is loaded of a setting: the body on the page if it has the entry, else the factory's value. No factory page is made for it:
+// that would be 64 bytes of stack. The page is handed on as a part, all of it, for the same reason as in page::check_page.
 pub(crate) fn loaded_from(page: &[u8], setting: Setting) -> u32
     ensures { λ r. ⌜ (r ≡ loadedFrom (now (page .entry)) setting) × Fits setting r ⌝ }
 {
-    let factory = page::factory_page();
-    let body = page::body(page, &factory, page::code_of(setting));
+    let whole = &page[0..];
+    let entry = page::find_entry(whole, page::code_of(setting));
+    let Entry::At(offset, n) = entry else {
+        return page::factory_value(setting);
+    };
+    let body = page::part(whole, offset, n);
     match setting {
         Setting::Baud => word::number_of(body),
         Setting::Accelerometer => wide(first_byte(body)),

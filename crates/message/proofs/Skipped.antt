@@ -3,12 +3,12 @@ use Prim.Native.Nat.{ℕ, zero, suc, _+_, _-_, _≤_, _<_}
 use native.Mathlib.Omega.{arith}
 use native.Mathlib.Numerals.{add-one}
 use native.Mathlib.Nat.{add-zero, add-sub-cancel-left}
-use mathlib.Core.Path.{_≡_, refl, ap, _∙_, sym}
+use mathlib.Core.Path.{_≡_, refl, ap, _∙_, sym, subst}
 use mathlib.Core.Bool.{Bool, true, false, _||_, Bool·beq, or-assoc, or-false}
 use mathlib.Core.List.{List, [], _++_, append-nil}
 use lib.Dec.{eqb}
 use lib.ListN.{length, take, drop, getD, length-drop, length-append, List·getD-append, drop-of-length-le}
-use lib.Seq.{getD-drop, drop-append-le, drop-cons, drop-drop}
+use lib.Seq.{getD-drop, drop-append-le, drop-cons, drop-drop, take-all}
 use borrow.Author.Tests.{eq-eqb, eqb-true, eqb-false}
 use Rattle.stream.specs.declared.Verdict.the-variants.{Skip}
 use Rattle.stream.specs.Seek.{beyond, seek}
@@ -34,6 +34,12 @@ module _ (s : List ℕ) where
         inside = b .inside;
         sought = λ v. rw k at (a .sought v ∙ ap (beyond (i - from)) (b .sought v) ∙ beyond-beyond (i - from) (to - i) (seek front (drop to s ++ v)));
       }
+
+  -- The same of a part that is all of the bytes.
+  pub skips-whole : {from i to : ℕ} → SkippedPart (take (length s - 0) (drop 0 s)) from i → SkippedPart (take (length s - 0) (drop 0 s)) i to → SkippedPart s from to
+  skips-whole {from} {i} {to} a b =
+      let w : take (length s - 0) (drop 0 s) ≡ s = take-all (length s - 0) s (omega arith) in
+      skips-on (subst (λ (l : List ℕ). SkippedPart l from i) w a) (subst (λ (l : List ℕ). SkippedPart l i to) w b)
 
   -- A place at which no message opens, whatever follows.
   skips-one : (i : ℕ) → i < length s → ((v : List ℕ) → opens (drop i s ++ v) ≡ false) → SkippedPart s i (i + 1)

@@ -88,10 +88,12 @@ fn past_run(s: &[u8], from: usize) -> usize
     at
 }
 
-// The next place from `from` on that has to be looked at.
+// The next place from `from` on that has to be looked at. What is handed on is a part of `s`, all of it: a caller then passes `s` in
+// registers, where it would else pass the place of a copy on its stack (docs/DECISIONS.md).
 pub(crate) fn past_skips(s: &[u8], from: usize) -> usize
     requires { ⌜ from ≤ length (now s) ⌝ }
     ensures { λ r. ⌜ SkippedPart (now (s .entry)) from r ⌝ }
 {
-    past_run(s, next_a5(s, from))
+    let whole = &s[0..];
+    past_run(whole, next_a5(whole, from))
 }

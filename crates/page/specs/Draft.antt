@@ -1,12 +1,18 @@
--- Internal: how store.rt fills a page, entry by entry. That it ends with the writing of the values is proved in proofs/Drafts.antt.
+-- Internal: how store.rt fills a page, entry by entry, and put.rt puts values in, one after the other. That both end with the writing of
+-- the values is proved in proofs/Drafts.antt and proofs/Puts.antt.
 use mathlib.Core.List.{List, [], _∷_}
+use mathlib.Core.Option.{Option, none, some}
 use Prim.Native.Nat.{ℕ, zero, suc, _+_, _*_}
 use lib.ListN.{length, set}
 use lib.Seq.{sets}
 use Rattle.page.specs.declared.setting.Stored.{Stored}
 use Rattle.page.specs.declared.setting.Stored.the-variants.{Absent, Value}
+use Rattle.page.specs.declared.setting.Values.{Values}
 use Rattle.page.specs.declared.store.Places.{Places}
 use Rattle.page.specs.Settings.{Key, keyCode, keyBytes}
+use Rattle.page.specs.Page.{withKey}
+use Rattle.page.specs.Lookup.{valuesIn}
+use Rattle.page.specs.Sound.{pageWriting}
 
 -- 1 for a value that is there.
 abbrev pub presence : Stored → ℕ
@@ -37,3 +43,15 @@ withBody d code bs =
 abbrev pub withStored : Draft → Key → Stored → Draft
 withStored d k Absent = d
 withStored d k (Value x) = withBody d (keyCode k) (keyBytes k x)
+
+-- ---- one value after the other
+
+-- The values with one put in under a code that stands for a key.
+abbrev pub withCoded : Values → Option Key → ℕ → Values
+withCoded v (some k) x = withKey v k x
+withCoded v none x = v
+
+-- The page with a value put in that is there.
+abbrev pub puttingOn : Stored → Option Key → List ℕ → List ℕ
+puttingOn Absent k page = page
+puttingOn (Value x) k page = pageWriting (withCoded (valuesIn page) k x) page .page

@@ -3,7 +3,7 @@ ghost use mathlib.Core.Path.{_≡_};
 ghost use mathlib.Core.Bool.{_&&_};
 ghost use lib.Dec.{eqb, leb};
 ghost use Rattle.page.specs.Settings.{codeOf, settingOf, someOf, baudRates, allowed, pageAllowed, valueSize, factoryValue};
-ghost use Rattle.page.specs.Page.{storedIn, withValue, withNumber};
+ghost use Rattle.page.specs.Page.{withValue, withNumber};
 
 pub enum Setting {
     Baud,
@@ -109,18 +109,8 @@ pub fn factory_value(setting: Setting) -> u32
     }
 }
 
-pub fn stored_in(values: Values, setting: Setting) -> Stored
-    ensures { λ r. ⌜ r ≡ storedIn values setting ⌝ }
-{
-    match setting {
-        Setting::Baud => values.baud,
-        Setting::Accelerometer => values.accelerometer,
-        Setting::Gyroscope => values.gyroscope,
-    }
-}
-
 // The values with one put in, the others kept.
-pub fn with_value(values: Values, setting: Setting, value: u32) -> Values
+pub(crate) fn with_value(values: Values, setting: Setting, value: u32) -> Values
     ensures { λ r. ⌜ r ≡ withValue values setting value ⌝ }
 {
     let baud = values.baud;
@@ -151,7 +141,7 @@ pub fn with_value(values: Values, setting: Setting, value: u32) -> Values
 }
 
 // The values with a number put in, the others kept.
-pub fn with_number(values: Values, number: u32) -> Values
+pub(crate) fn with_number(values: Values, number: u32) -> Values
     ensures { λ r. ⌜ r ≡ withNumber values number ⌝ }
 {
     let baud = values.baud;

@@ -6,6 +6,7 @@ use board::Board;
 use board::Fed;
 use board::Port;
 use board::Started;
+use board::StartedInPlace;
 use command::Settings;
 
 // The page has the first `length` of the bytes, so that it can be one of more than 64 bytes too.
@@ -148,6 +149,19 @@ fn feed_parts(
     let r = within(n, room.len());
     let p = within(k, page.len());
     board::feed(port, board, chunk, &mut room[0..r], &mut page[0..p])
+}
+
+// A start in place on the first `n` bytes of one array and the first `m` of another.
+pub(crate) fn start_parts(
+    first: &mut [u8],
+    n: usize,
+    second: &mut [u8],
+    m: usize,
+    page: &[u8],
+) -> StartedInPlace {
+    let a = within(n, first.len());
+    let b = within(m, second.len());
+    board::start_in_place(&mut first[0..a], &mut second[0..b], page)
 }
 
 // The smaller of the two.

@@ -1,4 +1,4 @@
-// The verbs on a board that is fed one message at a time, and nothing else: board, restart, handle, second, room.
+// The verbs on a board that is started, or fed one message at a time, and nothing else: board, restart, arrays, handle, second, room.
 use crate::bench;
 use crate::bench::Bench;
 use crate::bench::Told;
@@ -19,6 +19,12 @@ pub(crate) fn outcome(verb: &[u8], args: &[u8], bench: Bench, out: Output) -> To
     }
     if text::same(verb, b"restart") {
         return restart(bench, out);
+    }
+    if text::same(verb, b"arrays") {
+        return Told {
+            bench,
+            out: start_arrays(args, out),
+        };
     }
     if text::same(verb, b"handle") {
         return handle(0, args, bench, out);
@@ -59,6 +65,36 @@ fn restart(bench: Bench, out: Output) -> Told {
         bench: bench.with_board(board),
         out: say_started(started, out),
     }
+}
+
+// A start in place on two arrays of EE: the number, the settings, and both arrays afterwards.
+fn start_arrays(args: &[u8], out: Output) -> Output {
+    let rest = text::other_words(args);
+    let Number::Value(n) = text::read_decimal(text::first_word(args)) else {
+        return out.bad_line();
+    };
+    let Number::Value(m) = text::read_decimal(text::first_word(rest)) else {
+        return out.bad_line();
+    };
+    let mut page = [0u8; 80];
+    let Number::Value(p) = pages::read_page(text::other_words(rest), &mut page) else {
+        return out.bad_line();
+    };
+    if n > MOST {
+        return out.bad_line();
+    }
+    if m > MOST {
+        return out.bad_line();
+    }
+    let mut first = [0xEEu8; MOST];
+    let mut second = [0xEEu8; MOST];
+    let started = bench::start_parts(&mut first, n, &mut second, m, text::prefix(&page, p));
+    let told = out.decimal(started.number as u64).text(b", ");
+    bench::say_settings(started.settings, told)
+        .text(b", ports ")
+        .bytes(text::prefix(&first, n))
+        .byte(b' ')
+        .bytes(text::prefix(&second, m))
 }
 
 fn handle(port: u8, args: &[u8], bench: Bench, out: Output) -> Told {

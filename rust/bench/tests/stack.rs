@@ -1,136 +1,272 @@
-//! How much stack a feed takes.
+//! How much of the library's own stack a feed takes, and a start by value. painted/mod.rs says what that is, and how it
+//! is measured.
 //!
-//! The method: a thread paints the stack below its frame, feeds, and then waits in a loop that calls nothing, while
-//! another thread looks through /proc/self/mem for the lowest byte that is no longer as painted. What is printed is the
-//! depth of that byte below the caller's frame: the caller's board (552 bytes), room and page, the arguments, the library's
-//! frames and that of memset. Bytes that are reserved but never written are not seen.
-//!
-//! `cargo test --release -p bench --test stack -- --nocapture` prints the figures.
+//! `cargo test --release --offline -p bench --test stack -- --nocapture` prints the figures. It needs no call that is
+//! new with request 04, so that it runs with an archive from before it too: the table is printed before anything is
+//! compared with a limit.
 
-#![forbid(unsafe_code)]
+#![deny(unsafe_code)]
 
-use ketphiroj::{Board, Port};
-use std::fs::File;
-use std::hint::{black_box, spin_loop};
-use std::os::unix::fs::FileExt;
-use std::sync::atomic::{AtomicBool, AtomicUsize, Ordering};
-use std::thread;
+mod painted;
 
-/// How far down the stack is painted.
-const AREA: usize = 64 << 10;
+use ketphiroj::{read_rows, Board, Outcome, Port, PAGE};
+use painted::{own_stack, pages, print_heading, print_row};
+use raw::{Feed, Start};
 
-/// What a feed is given, and where the caller's frame is.
-struct Run {
+/// The most that a feed may take of the library's own stack, in bytes. Before request 04, which asks for not more than
+/// before, none took less than 328. One that is not refused takes 216 or more, so that with an array of 64 bytes or more, in whichever function, it is over the limit.
+const MOST_OF_A_FEED: usize = 256;
+
+/// The most that a start by value may take. It answers a whole board in the caller's memory, and has the array of one
+/// port, 260 bytes, beside it; with that of a second port it is over the limit.
+const MOST_OF_A_START: usize = 512;
+
+/// The port that is fed: port 1 takes commands without a number on every page.
+const PORT: u8 = 1;
+
+/// What a feed is given.
+#[derive(Clone)]
+pub struct Given {
     board: Board,
     chunk: Vec<u8>,
-    painted: u8,
-    top: AtomicUsize,
-    fed: AtomicBool,
-    looked: AtomicBool,
+    room: [u8; Board::REPLY],
+    page: [u8; PAGE],
 }
 
-#[inline(never)]
-fn paint(pattern: u8) {
-    let mut area = [0; AREA];
-    area.fill(pattern);
-    black_box(&mut area);
-}
+/// The unsafe part: the calls as C has them. The wrapper's functions do not serve here: they are inlined, or have
+/// frames of their own, which differ from one build to the next, and then it is not known where the stack pointer
+/// stands when the library is called.
+#[allow(unsafe_code)]
+mod raw {
+    use super::painted::Call;
+    use super::{Given, PORT};
+    use ketphiroj::ffi::{Started, Stepped};
+    use ketphiroj::{Settings, PAGE};
+    use std::arch::naked_asm;
+    use std::mem::MaybeUninit;
 
-/// The thread that is looked at: warm up, so that nothing is bound or loaded later; paint; call; wait.
-fn painted_call(run: &Run, call: fn(&Run)) {
-    let mark = 0u8;
-    call(run);
-    paint(run.painted);
-    call(run);
-    run.top.store(std::ptr::from_ref(black_box(&mark)).addr(), Ordering::Relaxed);
-    run.fed.store(true, Ordering::Release);
-    while !run.looked.load(Ordering::Acquire) {
-        spin_loop();
+    // What a function answers is not looked at, and the functions that do nothing do not write it.
+    type FeedFunction = unsafe extern "C" fn(
+        u8,
+        *mut u8,
+        usize,
+        usize,
+        usize,
+        Settings,
+        *const u8,
+        usize,
+        *mut u8,
+        usize,
+        *mut u8,
+        usize,
+    ) -> MaybeUninit<Stepped>;
+    type StartFunction = unsafe extern "C" fn(*const u8, usize) -> MaybeUninit<Started>;
+
+    extern "C" {
+        fn ketphiroj_feed_in_place(
+            port: u8,
+            bytes: *mut u8,
+            bytes_length: usize,
+            first: usize,
+            second: usize,
+            settings: Settings,
+            chunk: *const u8,
+            chunk_length: usize,
+            room: *mut u8,
+            room_length: usize,
+            page: *mut u8,
+            page_length: usize,
+        ) -> MaybeUninit<Stepped>;
+        fn ketphiroj_start(page: *const u8, page_length: usize) -> MaybeUninit<Started>;
+    }
+
+    /// A record as long as these is answered in the caller's memory, whose address is handed back.
+    #[unsafe(naked)]
+    unsafe extern "C" fn feed_nothing(
+        _: u8,
+        _: *mut u8,
+        _: usize,
+        _: usize,
+        _: usize,
+        _: Settings,
+        _: *const u8,
+        _: usize,
+        _: *mut u8,
+        _: usize,
+        _: *mut u8,
+        _: usize,
+    ) -> MaybeUninit<Stepped> {
+        naked_asm!("mov rax, rdi", "ret")
+    }
+
+    #[unsafe(naked)]
+    unsafe extern "C" fn start_nothing(_: *const u8, _: usize) -> MaybeUninit<Started> {
+        naked_asm!("mov rax, rdi", "ret")
+    }
+
+    /// A feed of a chunk to the second port of a board.
+    pub struct Feed {
+        bytes: (*mut u8, usize),
+        held: [usize; 2],
+        settings: Settings,
+        chunk: (*const u8, usize),
+        room: (*mut u8, usize),
+        page: (*mut u8, usize),
+    }
+
+    impl Feed {
+        pub const LIBRARY: FeedFunction = ketphiroj_feed_in_place;
+    }
+
+    impl Call for Feed {
+        type Given = Given;
+        type Function = FeedFunction;
+        const NOTHING: FeedFunction = feed_nothing;
+
+        fn lend(given: &mut Given) -> Feed {
+            let board = &mut given.board;
+            Feed {
+                bytes: (board.second.bytes.as_mut_ptr(), board.second.bytes.len()),
+                held: [board.first.held, board.second.held],
+                settings: board.settings,
+                chunk: (given.chunk.as_ptr(), given.chunk.len()),
+                room: (given.room.as_mut_ptr(), given.room.len()),
+                page: (given.page.as_mut_ptr(), given.page.len()),
+            }
+        }
+
+        #[inline(never)]
+        fn make(&self, function: FeedFunction) {
+            let Feed { bytes, held: [first, second], settings, chunk, room, page } = *self;
+            // SAFETY: the pointers are those of `given`, which outlives this, with their lengths, and do not overlap.
+            unsafe {
+                function(
+                    PORT, bytes.0, bytes.1, first, second, settings, chunk.0, chunk.1, room.0, room.1, page.0, page.1,
+                )
+            };
+        }
+    }
+
+    /// A start by value.
+    pub struct Start {
+        page: (*const u8, usize),
+    }
+
+    impl Start {
+        pub const LIBRARY: StartFunction = ketphiroj_start;
+    }
+
+    impl Call for Start {
+        type Given = [u8; PAGE];
+        type Function = StartFunction;
+        const NOTHING: StartFunction = start_nothing;
+
+        fn lend(page: &mut [u8; PAGE]) -> Start {
+            Start { page: (page.as_ptr(), page.len()) }
+        }
+
+        #[inline(never)]
+        fn make(&self, function: StartFunction) {
+            // SAFETY: the pointer is that of the page given, which outlives this, with its length.
+            unsafe { function(self.page.0, self.page.1) };
+        }
     }
 }
 
-/// How far below the caller's frame the lowest byte is that is not as painted.
-fn depth(board: Board, chunk: &[u8], painted: u8, call: fn(&Run)) -> usize {
-    let run = Run {
-        board,
-        chunk: chunk.to_vec(),
-        painted,
-        top: AtomicUsize::new(0),
-        fed: AtomicBool::new(false),
-        looked: AtomicBool::new(false),
-    };
-    let memory = File::open("/proc/self/mem").expect("Linux");
-    let mut area = vec![0; AREA / 2];
-    thread::scope(|scope| {
-        let looked_at = thread::Builder::new().stack_size(4 * AREA);
-        looked_at.spawn_scoped(scope, || painted_call(&run, call)).expect("a thread");
-        while !run.fed.load(Ordering::Acquire) {
-            thread::yield_now();
+/// How many rows are answered, their error, and how many entries a page that was blank has then. None where the chunk is
+/// used up.
+type Answer = Option<(usize, u8, u8)>;
+
+/// What a port holds, what is fed to it, and what is answered.
+struct Case {
+    name: &'static str,
+    held: Vec<u8>,
+    chunk: Vec<u8>,
+    answer: Answer,
+}
+
+impl Case {
+    /// A message of which the port holds the first bytes.
+    fn straddling(name: &'static str, message: &[u8], held: usize, answer: Answer) -> Case {
+        let (held, chunk) = message.split_at(held);
+        Case { name, held: held.to_vec(), chunk: chunk.to_vec(), answer }
+    }
+
+    fn given(&self, page: [u8; PAGE]) -> Given {
+        let mut second = Port::new();
+        second.bytes[..self.held.len()].copy_from_slice(&self.held);
+        second.held = self.held.len();
+        let board = Board { second, ..Board::start(&page).expect("a blank or sound page") };
+        Given { board, chunk: self.chunk.clone(), room: [0; Board::REPLY], page }
+    }
+
+    /// A case that does something else than its name says would measure nothing.
+    fn check(&self, mut given: Given) {
+        let blank = given.page[0] == 0xFF;
+        let outcome = given.board.feed(PORT, &given.chunk, &mut given.room, &mut given.page);
+        match (outcome.expect("a sound board and page"), self.answer) {
+            (Outcome::UsedUp { .. }, None) => {}
+            (Outcome::Reported { reply, saved, .. }, Some((rows, error, entries))) => {
+                let errors: Vec<u8> = read_rows(&given.room[..reply]).expect("a reply").map(|row| row.error).collect();
+                assert_eq!((errors, saved), (vec![error; rows], entries > 0), "{}", self.name);
+                let first = if entries == 0 { 0xFF } else { entries };
+                assert!(!blank || given.page[0] == first, "{}: {:02X?}", self.name, given.page);
+            }
+            (outcome, answer) => panic!("{}: {outcome:?} and not {answer:?}", self.name),
         }
-        let bottom = run.top.load(Ordering::Relaxed) - area.len();
-        memory.read_exact_at(&mut area, bottom as u64).expect("the thread's stack");
-        run.looked.store(true, Ordering::Release);
-    });
-    let lowest = area.iter().position(|&byte| byte != painted).expect("a call writes its return address");
-    assert!(lowest > 1024, "deeper than what was looked at");
-    area.len() - lowest
+    }
+
+    fn own_stack(&self, page: [u8; PAGE]) -> usize {
+        self.check(self.given(page));
+        own_stack::<Feed>(&self.given(page), Feed::LIBRARY)
+    }
 }
 
-#[inline(never)]
-fn nothing(run: &Run) {
-    black_box(run.board.settings.baud);
+/// Sixteen fields with this function, of each setting in turn.
+fn sixteen(function: u8) -> Vec<u8> {
+    [0x01, 0x07, 0x08].into_iter().cycle().take(16).flat_map(|code| [code, 1, function]).collect()
 }
 
-#[inline(never)]
-fn feed(run: &Run) {
-    let mut board = black_box(run.board);
-    let (mut room, mut page) = ([0; Board::REPLY], [0xFF; 64]);
-    black_box(board.feed(0, &run.chunk, &mut room, &mut page)).expect("a sound board and page");
-    black_box((room, page));
+/// A numbered command of type 02. The page of four entries keeps the number 1.
+fn numbered(fields: &[u8]) -> Vec<u8> {
+    plain::message(0x7C, &[&[0, 0, 0, 2, 0x02], fields].concat())
 }
 
-/// With two patterns, so that a byte that happens to be as painted is not missed.
-fn deepest(board: Board, chunk: &[u8], call: fn(&Run)) -> usize {
-    depth(board, chunk, 0xC3, call).max(depth(board, chunk, 0x3C, call))
-}
-
-fn fresh() -> Board {
-    Board::start(&[0xFF; 64]).expect("a blank page")
-}
-
-/// A board whose port 0 holds these bytes.
-fn holding(bytes: &[u8]) -> Board {
-    let mut first = Port::new();
-    first.bytes[..bytes.len()].copy_from_slice(bytes);
-    first.held = bytes.len();
-    Board { first, ..fresh() }
+fn cases() -> Vec<Case> {
+    let (longest, shorter) = (plain::message(0x02, &[0x11; 255]), plain::message(0x02, &[0x11; 254]));
+    let mut damaged = longest.clone();
+    damaged[260] ^= 1;
+    let case = |name, message: &[u8], answer| Case::straddling(name, message, 0, answer);
+    let all_saved = numbered(&sixteen(3));
+    vec![
+        case("nothing fed", &[], None),
+        case("261 bytes whole in the chunk", &longest, Some((1, 4, 0))),
+        Case::straddling("261 bytes, 1 of them held", &longest, 1, Some((1, 4, 0))),
+        Case::straddling("261 bytes, 130 of them held", &longest, 130, Some((1, 4, 0))),
+        Case::straddling("261 bytes, 260 of them held", &longest, 260, Some((1, 4, 0))),
+        Case::straddling("260 bytes, all of them held", &shorter, 260, Some((1, 4, 0))),
+        case("261 bytes, damaged", &damaged, Some((1, 1, 0))),
+        Case::straddling("1 byte to 259 held, and not yet whole", &longest[..260], 259, None),
+        case("16 reports", &plain::message(0x02, &sixteen(2)), Some((16, 0, 0))),
+        case("16 saves", &plain::message(0x02, &sixteen(3)), Some((16, 0, 3))),
+        case("a save", &plain::message(0x02, &[0x01, 1, 3]), Some((1, 0, 1))),
+        case("a load", &plain::message(0x02, &[0x01, 1, 4]), Some((1, 0, 0))),
+        case("a numbered save", &numbered(&[0x01, 1, 3]), Some((1, 0, 2))),
+        case("16 numbered saves", &all_saved, Some((16, 0, 4))),
+        Case::straddling("16 numbered saves, 30 bytes of them held", &all_saved, 30, Some((16, 0, 4))),
+    ]
 }
 
 #[test]
-fn stack_of_a_feed() {
-    let longest = plain::message(0x02, &[0x11; 255]);
-    let save = plain::message(0x02, &[0x01, 1, 3]);
-    let reports = plain::message(0x02, &[0x01, 1, 2].repeat(16));
-    let numbered_save = plain::message(0x7C, &[0, 0, 0, 1, 0x02, 0x01, 1, 3]);
-    let numbered_reports = plain::message(0x7C, &[&[0, 0, 0, 1, 0x02], &[0x01, 1, 2].repeat(16)[..]].concat());
-    let cases: [(&str, Board, &[u8]); 10] = [
-        ("nothing fed", fresh(), &[]),
-        ("a save", fresh(), &save),
-        ("16 reports at once", fresh(), &reports),
-        ("16 reports, the last 27", holding(&reports[..27]), &reports[27..]),
-        ("a numbered save", fresh(), &numbered_save),
-        ("16 numbered reports", fresh(), &numbered_reports),
-        ("261 bytes in one chunk", fresh(), &longest),
-        ("261 bytes, the first 130", fresh(), &longest[..130]),
-        ("261 bytes, the last 131", holding(&longest[..130]), &longest[130..]),
-        ("261 bytes, the last 1", holding(&longest[..260]), &longest[260..]),
-    ];
-    let none = deepest(fresh(), &[], nothing);
-    println!("stack in bytes below the caller's frame; a call that does nothing: {none}");
-    for (name, board, chunk) in cases {
-        let depth = deepest(board, chunk, feed);
-        println!("{name:<28} {depth:>8}");
-        // The caller's board and a few frames.
-        assert!(none < depth && depth < 2 << 10, "{name}: {depth}");
+fn own_stack_of_feeds() {
+    print_heading();
+    let feeds: Vec<(&str, [usize; 3])> =
+        cases().iter().map(|case| (case.name, pages().map(|page| case.own_stack(page)))).collect();
+    feeds.iter().for_each(|&(name, bytes)| print_row(name, bytes));
+    let start = pages().map(|page| own_stack::<Start>(&page, Start::LIBRARY));
+    print_row("start by value", start);
+    for (name, bytes) in feeds {
+        assert!(bytes.iter().all(|&bytes| bytes <= MOST_OF_A_FEED), "{name}: over {MOST_OF_A_FEED}: {bytes:?}");
     }
+    assert!(start.iter().all(|&bytes| bytes <= MOST_OF_A_START), "start by value: over {MOST_OF_A_START}: {start:?}");
 }

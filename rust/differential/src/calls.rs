@@ -1,7 +1,7 @@
 //! The calls under test.
 
 use crate::wrapper::Wrapper;
-use ketphiroj::ffi::{self, FlatField, FlatPage, FlatReply, FlatValues, Started, Stepped, Written};
+use ketphiroj::ffi::{self, FlatField, FlatPage, FlatReply, FlatValues, Started, StartedInPlace, Stepped, Written};
 use ketphiroj::Board;
 use plain::Reckoned;
 
@@ -42,6 +42,10 @@ pub fn feed(port: u8, mut board: Board, chunk: &[u8], room: &mut [u8], page: &mu
 pub trait Calls: Wrapper {
     fn start(&self, page: &[u8]) -> Started {
         ffi::start(page)
+    }
+
+    fn start_in_place(&self, first: &mut [u8], second: &mut [u8], page: &[u8]) -> StartedInPlace {
+        ffi::start_in_place(first, second, page)
     }
 
     fn feed(&self, port: u8, board: Board, chunk: &[u8], room: &mut [u8], page: &mut [u8]) -> Fed {

@@ -5,8 +5,8 @@ use crate::calls::{self, Calls, Fed, FieldGiven, NumberedGiven};
 use crate::folds::{refold, Before};
 use crate::lenient;
 use crate::wrapper::Wrapper;
-use ketphiroj::ffi::{self, FlatField, FlatPage, FlatReply, FlatValues, Started, Written};
-use ketphiroj::{Board, Field, Outcome, Port, Refusal, Reply, Values, PAGE};
+use ketphiroj::ffi::{self, FlatField, FlatPage, FlatReply, FlatValues, Started, StartedInPlace, Written};
+use ketphiroj::{Board, Field, Outcome, Port, Refusal, Reply, Settings, Values, PAGE};
 use plain::Reckoned;
 
 /// A fault. The table in main.rs has the group of cases that is to find it.
@@ -159,6 +159,17 @@ pub enum Fault {
     NumberNotWritten,
     NumberNotThere,
     BodyOfNumber,
+    // Found in starts in place.
+    SecondPortKept,
+    LastByteKept,
+    RefusedStartKeepsPorts,
+    RefusedStartWithoutSettings,
+    StartInPlaceOnNumber,
+    LongerArrayStarted,
+    SecondArrayUnmeasured,
+    PageBeforeArrays,
+    WrongArrayCleared,
+    WrongArrayOnPage,
     // Found in the calls of their own.
     StartOnThreeEntries,
     WholeWithoutSums,
@@ -181,6 +192,9 @@ pub enum Fault {
     WrappedRoom,
     WrappedPage,
     WrappedStart,
+    WrappedStartInPlace,
+    WrappedHeldKept,
+    WrappedRefusalKept,
     WrappedMessageCheck,
     WrappedReply,
     WrappedRows,
@@ -228,6 +242,11 @@ impl Calls for Planted {
             started.board.settings = ffi::start(&[0xFF; 64]).board.settings;
         }
         started
+    }
+
+    fn start_in_place(&self, first: &mut [u8], second: &mut [u8], page: &[u8]) -> StartedInPlace {
+        let started = start_wrong_arrays(self.0, first, second, page);
+        started.unwrap_or_else(|| start_kept_board(self.0, first, second, page))
     }
 
     fn feed(&self, port: u8, board: Board, chunk: &[u8], room: &mut [u8], page: &mut [u8]) -> Fed {
@@ -414,6 +433,18 @@ impl Wrapper for Planted {
         self.next_refusal(Fault::WrappedStart, Board::start(page))
     }
 
+    fn wrapped_start_in_place(&self, board: &mut Board, page: &[u8]) -> Result<(), Refusal> {
+        let before = *board;
+        let started = self.next_refusal(Fault::WrappedStartInPlace, board.start_in_place(page));
+        match (self.0, started) {
+            (Fault::WrappedHeldKept, Ok(())) => board.second.held = before.second.held,
+            // As a feed that is refused leaves its board.
+            (Fault::WrappedRefusalKept, Err(_)) => *board = before,
+            _ => {}
+        }
+        started
+    }
+
     fn wrapped_feed(
         &self,
         port: u8,
@@ -512,6 +543,57 @@ impl Wrapper for Planted {
         }
         page
     }
+}
+
+/// What a fault answers where an array is not 260 bytes; none where both are, and for the other faults.
+fn start_wrong_arrays(fault: Fault, first: &mut [u8], second: &mut [u8], page: &[u8]) -> Option<StartedInPlace> {
+    let Started { number, board } = ffi::start(page);
+    let by_page = StartedInPlace { settings: board.settings, number };
+    let (first_right, second_right) = (first.len() == Port::ROOM, second.len() == Port::ROOM);
+    if first_right && second_right {
+        return None;
+    }
+    match fault {
+        // The 260 bytes that are needed are there.
+        Fault::LongerArrayStarted if first.len() >= Port::ROOM && second.len() >= Port::ROOM => {
+            Some(ffi::start_in_place(&mut first[..Port::ROOM], &mut second[..Port::ROOM], page))
+        }
+        Fault::SecondArrayUnmeasured if first_right => {
+            first.fill(0);
+            second.fill(0);
+            Some(by_page)
+        }
+        Fault::PageBeforeArrays if number != 0 => Some(by_page),
+        Fault::WrongArrayCleared => {
+            second.fill(0);
+            Some(ffi::start_in_place(first, second, page))
+        }
+        Fault::WrongArrayOnPage => Some(StartedInPlace { number: 17, ..by_page }),
+        _ => None,
+    }
+}
+
+/// The right answer, changed by the fault.
+fn start_kept_board(fault: Fault, first: &mut [u8], second: &mut [u8], page: &[u8]) -> StartedInPlace {
+    let (first_given, second_given) = (first.to_vec(), second.to_vec());
+    let mut started = ffi::start_in_place(first, second, page);
+    match (fault, started.number) {
+        (Fault::SecondPortKept, 0) => second.copy_from_slice(&second_given),
+        (Fault::LastByteKept, 0) => first[Port::ROOM - 1] = first_given[Port::ROOM - 1],
+        // As other calls that are refused, it writes nothing.
+        (Fault::RefusedStartKeepsPorts, 19 | 20) => {
+            first.copy_from_slice(&first_given);
+            second.copy_from_slice(&second_given);
+        }
+        (Fault::RefusedStartWithoutSettings, 19 | 20) => {
+            started.settings = Settings { baud: 0, accelerometer: 0, gyroscope: 0 }
+        }
+        (Fault::StartInPlaceOnNumber, 0) if has_entry(page, 0x70) => {
+            started.settings = ffi::start(&[0xFF; 64]).board.settings
+        }
+        _ => {}
+    }
+    started
 }
 
 /// One byte of room too few is enough, where the reply fits.

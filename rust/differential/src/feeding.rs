@@ -26,11 +26,13 @@ pub fn same_board(library: &Board, plain: &Board) -> Outcome {
     same_bytes("bytes of port 1", &library.second.bytes, &plain.second.bytes)
 }
 
-fn same_bytes(what: &str, library: &[u8], plain: &[u8]) -> Outcome {
-    match library.iter().zip(plain).position(|(one, other)| one != other) {
-        None => Ok(()),
-        Some(at) => same(&format!("{what} from {at} on"), &library[at..260.min(at + 8)], &plain[at..260.min(at + 8)]),
-    }
+/// Compares arrays of one length; a difference is told by its first bytes.
+pub fn same_bytes(what: &str, library: &[u8], plain: &[u8]) -> Outcome {
+    let Some(at) = library.iter().zip(plain).position(|(one, other)| one != other) else {
+        return Ok(());
+    };
+    let end = library.len().min(at + 8);
+    same(&format!("{what} from {at} on"), &library[at..end], &plain[at..end])
 }
 
 /// Starts both on a page, whether they accept it or not. Gives the number too.

@@ -11,6 +11,7 @@ mod feeding;
 mod fields;
 mod folds;
 mod group;
+mod in_place;
 mod lenient;
 mod lists;
 mod messages;
@@ -66,9 +67,10 @@ enum Group {
     GrowingNumbers,
     NumberedReplies,
     WrittenNumbered,
+    StartsInPlace,
 }
 
-const GROUPS: [Group; 32] = [
+const GROUPS: [Group; 33] = [
     Group::Lists,
     Group::HardLists,
     Group::ReckonedLists,
@@ -101,6 +103,7 @@ const GROUPS: [Group; 32] = [
     Group::GrowingNumbers,
     Group::NumberedReplies,
     Group::WrittenNumbered,
+    Group::StartsInPlace,
 ];
 
 impl Group {
@@ -138,6 +141,7 @@ impl Group {
             Group::Commands | Group::SeparateMessages | Group::Replays => &[0],
             Group::NumberedCommands | Group::UnnumberedCommands => &[0],
             Group::Starts | Group::Pages | Group::WrittenPages => &[0, 19, 20],
+            Group::StartsInPlace => &[0, 17, 19, 20],
             Group::Readers => &[0, 18, 21, 22, 23, 24, 25, 27],
             Group::Replies => &[0, 23, 27],
             Group::ReplyRows | Group::NumberedReplies => &[0, 21, 22, 23, 27],
@@ -183,6 +187,7 @@ impl Group {
             Group::GrowingNumbers => numbered::grow(calls, rng, ran),
             Group::NumberedReplies => numbered::replies(calls, rng, ran),
             Group::WrittenNumbered => numbered::write(calls, rng, ran),
+            Group::StartsInPlace => in_place::all(calls, rng, ran),
         }
     }
 
@@ -197,7 +202,7 @@ impl Group {
 }
 
 /// Each planted fault, and the group that is to find it.
-const FAULTS: [(Fault, Group); 169] = [
+const FAULTS: [(Fault, Group); 182] = [
     (Fault::ReplyOfError4, Group::Lists),
     (Fault::RoomPastTheReply, Group::Lists),
     (Fault::SkippedOfHeldMessage, Group::Lists),
@@ -367,6 +372,19 @@ const FAULTS: [(Fault, Group); 169] = [
     (Fault::NumberNotWritten, Group::WrittenPages),
     (Fault::NumberNotThere, Group::WrittenPages),
     (Fault::BodyOfNumber, Group::Bodies),
+    (Fault::SecondPortKept, Group::StartsInPlace),
+    (Fault::LastByteKept, Group::StartsInPlace),
+    (Fault::RefusedStartKeepsPorts, Group::StartsInPlace),
+    (Fault::RefusedStartWithoutSettings, Group::StartsInPlace),
+    (Fault::StartInPlaceOnNumber, Group::StartsInPlace),
+    (Fault::LongerArrayStarted, Group::StartsInPlace),
+    (Fault::SecondArrayUnmeasured, Group::StartsInPlace),
+    (Fault::PageBeforeArrays, Group::StartsInPlace),
+    (Fault::WrongArrayCleared, Group::StartsInPlace),
+    (Fault::WrongArrayOnPage, Group::StartsInPlace),
+    (Fault::WrappedStartInPlace, Group::StartsInPlace),
+    (Fault::WrappedHeldKept, Group::StartsInPlace),
+    (Fault::WrappedRefusalKept, Group::StartsInPlace),
 ];
 
 /// The checks that passed and failed.

@@ -24,7 +24,7 @@ pub fn read(calls: &impl Calls, page: &[u8], ran: &mut Ran) -> Outcome {
 }
 
 /// What the wrapper gives where a call answers this number.
-fn done_or<T>(number: u8, done: T) -> Result<T, u8> {
+pub fn done_or<T>(number: u8, done: T) -> Result<T, u8> {
     match number {
         plain::number::DONE => Ok(done),
         refused => Err(refused),

@@ -1,19 +1,23 @@
 //! The plain reading's records as the library's.
 
-use ketphiroj::ffi::{FlatField, FlatReply, FlatValues, Written};
+use ketphiroj::ffi::{FlatField, FlatReply, FlatValues, StartedInPlace, Written};
 use ketphiroj::{Board, Port, Settings};
 
 fn port(port: &plain::Port) -> Port {
     Port { bytes: port.bytes, held: port.held }
 }
 
+fn settings(settings: plain::Settings) -> Settings {
+    let plain::Settings { baud, accelerometer, gyroscope } = settings;
+    Settings { baud, accelerometer, gyroscope }
+}
+
 pub fn board(board: &plain::Board) -> Board {
-    let plain::Settings { baud, accelerometer, gyroscope } = board.settings;
-    Board {
-        first: port(&board.ports[0]),
-        second: port(&board.ports[1]),
-        settings: Settings { baud, accelerometer, gyroscope },
-    }
+    Board { first: port(&board.ports[0]), second: port(&board.ports[1]), settings: settings(board.settings) }
+}
+
+pub fn started_in_place((number, started): (u8, plain::Settings)) -> StartedInPlace {
+    StartedInPlace { settings: settings(started), number }
 }
 
 pub fn written((number, length): (u8, usize)) -> Written {

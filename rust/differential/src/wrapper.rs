@@ -10,6 +10,10 @@ pub trait Wrapper {
         Board::start(page)
     }
 
+    fn wrapped_start_in_place(&self, board: &mut Board, page: &[u8]) -> Result<(), Refusal> {
+        board.start_in_place(page)
+    }
+
     fn wrapped_feed(
         &self,
         port: u8,

@@ -3,8 +3,8 @@
 //! This is a reading of the paper ("01", the board's protocol, line by line), with requests 01 to 03 of the change
 //! requests ("02"), and not of the library. It is slow and obvious, in the papers' words and order; numbers such as
 //! 01-014 and 02-01.3 are those of the papers' sentences. READINGS.md says how each sentence is read that leaves a
-//! doubt, and which readings docs/DECISIONS.md settles. [`read_page`], [`body`], [`append_field`] and
-//! [`write_numbered`] are no calls of the papers': which numbers they give, and in which order, is decided there.
+//! doubt, and which readings docs/DECISIONS.md settles. [`read_page`], [`body`], [`append_field`], [`write_numbered`]
+//! and [`start_in_place`] are no calls of the papers': which numbers they give, and in which order, is decided there.
 //! [`generate`] makes messages, streams, pages, boards and lists of feeds from a seed.
 //!
 //! The paper, section by section:
@@ -41,7 +41,7 @@ pub use handling::{allowed, fresh, handle, reply_of, value_size, Handled, Row, S
 pub use listing::listing;
 pub use message::{check_message, fields_of, message, sums, sums_right, Part, Sums};
 pub use page::{body, check_page, factory_page, read_page, values, write_page, Values};
-pub use port::{feed, start, Board, Fed, Port};
+pub use port::{feed, start, start_in_place, Board, Fed, Port};
 pub use readers::{field_data, read_field, read_reply, Field, Reply};
 pub use reckoning::{Reckoned, Reckoning};
 pub use scan::{scan, Event};

@@ -51,6 +51,21 @@ pub fn start(page: &[u8]) -> (u8, Board) {
     (number::DONE, Board { ports: [Port::fresh(), Port::fresh()], settings })
 }
 
+/// Starting a board that its owner keeps, whose ports have these bytes: the number and the settings. The held counts and
+/// the settings are put into the board by its owner. It is no call of the paper's; see READINGS.md.
+///
+/// "17 | board unsound" where an array is not a port's: nothing is written. Else both become a fresh port's, also where
+/// the page is refused: a refusal of starting returns "the factory settings and two fresh ports".
+pub fn start_in_place(first: &mut [u8], second: &mut [u8], page: &[u8]) -> (u8, Settings) {
+    if first.len() != Port::MOST_HELD || second.len() != Port::MOST_HELD {
+        return (number::UNSOUND, FACTORY);
+    }
+    let (number, board) = start(page);
+    first.copy_from_slice(&board.ports[0].bytes);
+    second.copy_from_slice(&board.ports[1].bytes);
+    (number, board.settings)
+}
+
 /// 01-023: "It answers the number, the bytes taken, the bytes skipped, whether a save was accepted, and the new board."
 #[derive(Clone, Debug, PartialEq, Eq)]
 pub struct Fed {

@@ -148,6 +148,27 @@ fn lookup() {
     assert!(std::ptr::eq(accepted(&saved, &factory, 0x07).as_ptr(), &factory[14]));
 }
 
+/// A start in place is a start of the same page, for arrays of 260 bytes; others are refused before the page is looked at,
+/// and left alone.
+#[test]
+fn started_in_place() {
+    let pages = [page_of("01 080401 07"), page_of("01 080401 09"), vec![0xFF; 64], vec![0xFF; 63]];
+    for (page, number) in pages.iter().zip([0, 20, 0, 19]) {
+        let (mut first, mut second) = ([0x31; 260], [0x62; 260]);
+        let (started, board) = start(page);
+        assert_eq!(started, number);
+        assert_eq!(start_in_place(&mut first, &mut second, page), (number, board.settings));
+        assert_eq!((first, second), ([0; 260], [0; 260]));
+    }
+    for (first, second) in [(0, 260), (259, 260), (261, 260), (260, 0), (260, 259), (260, 261), (261, 261)] {
+        let (mut first, mut second) = (vec![0x31; first], vec![0x62; second]);
+        for page in &pages {
+            assert_eq!(start_in_place(&mut first, &mut second, page), (17, FACTORY));
+            assert!(first.iter().all(|&byte| byte == 0x31) && second.iter().all(|&byte| byte == 0x62));
+        }
+    }
+}
+
 /// A refused page gives its number and no values, though entries can be made out on it; and no body, neither as the saved
 /// nor as the factory page.
 #[test]

@@ -1,30 +1,23 @@
 -- `board::feeding::step_found` meets its contract.
 use Rattle.board.proofs.Places.{found-at, found-in, found-some, found-step}
-use Prim.Native.Nat.{_+_, _≤_}
-use lib.ListN.{length}
+use native.Mathlib.Omega.{arith}
 use borrow.Author.Needs.{needs}
 use Rattle.board.proofs.feeding.step_found.Statement.{statement}
 use Rattle.board.proofs.feeding.step_found.Tie as tie
-
-add-excess : tie.Need-add-excess
-add-excess c =
-    let h : c .before .before .before .before .args .k + c .before .before .before .before .args .n ≤ c .before .before .before .before .args .held + length (c .before .before .before .before .args .chunk .now) = search (found-in, needs) in
-    search needs
-
-excess-requires : tie.Need-excess-requires
-excess-requires c κs = search needs
-
-skipped-with-requires : tie.Need-skipped-with-requires
-skipped-with-requires c κs =
-    let h : c .before .before .before .before .before .args .k + c .before .before .before .before .before .args .n ≤ c .before .before .before .before .before .args .held + length (c .before .before .before .before .before .args .chunk .now) = search (found-in, needs) in
-    let s : 1 ≤ c .before .before .before .before .before .args .n = search (found-some, needs) in
-    search needs
 
 answer-at-requires : tie.Need-answer-at-requires
 answer-at-requires c κs = (search needs, search (found-at, needs))
 
 keep-after-requires : tie.Need-keep-after-requires
 keep-after-requires c κs = search needs
+
+reported-requires : tie.Need-reported-requires
+reported-requires c κs =
+    let start = c .before .before .before .before .before .before .before .before .before .before .before .before .before .before .before .before in
+    let a = start .args in
+    let p = start .pre in
+    let f = found-in (a .bytes .now) (a .chunk .now) (a .held) (p .0 .0) (p .0 .1) (a .k) (a .n) (a .good) (p .1) in
+    (omega (arith, f, p .0 .0, start .good, start .fits), search (found-some, needs))
 
 same-length : tie.Need-same-length
 same-length c = search needs
@@ -36,17 +29,19 @@ same-length-3 : tie.Need-same-length-3
 same-length-3 c = search needs
 
 returns : tie.Need-returns
-returns c = search (found-step, needs)
+returns c =
+    let start = c .before .before .before .before .before .before .before .before .before .before .before .before .before .before .before .before .before in
+    let a = start .args in
+    let p = start .pre in
+    search (found-step (a .bytes .now) (a .chunk .now) (a .held) (p .0 .0) (p .0 .1) (a .k) (a .n) (a .good) (p .1), needs)
 
 pub step-found-spec : {M : Type 1} → statement M
 step-found-spec =
     tie.close
     (tie.spec
-    add-excess
-    excess-requires
-    skipped-with-requires
     answer-at-requires
     keep-after-requires
+    reported-requires
     same-length
     same-length-2
     same-length-3

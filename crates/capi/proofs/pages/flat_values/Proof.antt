@@ -4,8 +4,17 @@ use borrow.Author.Needs.{needs}
 use Rattle.capi.proofs.pages.flat_values.Statement.{statement}
 use Rattle.capi.proofs.pages.flat_values.Tie as tie
 
-values-of-requires : tie.Need-values-of-requires
-values-of-requires c κs = search needs
+stored-value-requires : tie.Need-stored-value-requires
+stored-value-requires c κs = search needs
+
+stored-value-requires-2 : tie.Need-stored-value-requires-2
+stored-value-requires-2 c κs = search needs
+
+stored-value-requires-3 : tie.Need-stored-value-requires-3
+stored-value-requires-3 c κs = search needs
+
+last-number-requires : tie.Need-last-number-requires
+last-number-requires c κs = search needs
 
 is-there-requires : tie.Need-is-there-requires
 is-there-requires c κs = search needs
@@ -38,7 +47,10 @@ pub flat-values-spec : {M : Type 1} → statement M
 flat-values-spec =
     tie.close
     (tie.spec
-    values-of-requires
+    stored-value-requires
+    stored-value-requires-2
+    stored-value-requires-3
+    last-number-requires
     is-there-requires
     number-in-requires
     is-there-requires-2

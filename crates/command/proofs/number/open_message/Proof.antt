@@ -39,8 +39,8 @@ number-in-requires c κs =
     let t = number-there (now (a .held)) (now (a .chunk)) (a .to) (numberOn (now (a .page))) _ (c .before .number-error .ensures) (c .if3 .left) (c .before .before .before .before .before .before .before .before .pre .1) in
     (omega arith, omega arith)
 
-spend-requires : tie.Need-spend-requires
-spend-requires c κs = search needs
+put-last-number-requires : tie.Need-put-last-number-requires
+put-last-number-requires c κs = search needs
 
 byte-over-requires : tie.Need-byte-over-requires
 byte-over-requires c κs = search needs
@@ -53,7 +53,7 @@ returns-4 c =
     let a = c .before .before .before .before .before .before .before .before .before .before .before .before .before .before .args in
     let error = c .before .before .before .before .before .before .before .number-error .ensures in
     let t = number-there (now (a .held)) (now (a .chunk)) (a .to) (numberOn (now (a .page))) _ error (c .before .before .before .before .before .before .if3 .left) (c .before .before .before .before .before .before .before .before .before .before .before .before .before .before .pre .1) in
-    open-spent (a .good) (a .kind) (drop 4 (take (a .to) (now (a .held) ++ now (a .chunk)))) (now (a .page)) (c .before .before .before .before .before .before .before .before .before .before .if1 .left) (c .before .before .before .before .before .before .before .before .before .if2 .left) _ error (c .before .before .before .before .before .before .if3 .left) _ (c .before .before .before .before .before .number-in .ensures) _ (c .before .before .before .spend .ensures) _
+    open-spent (a .good) (a .kind) (drop 4 (take (a .to) (now (a .held) ++ now (a .chunk)))) (now (a .page)) (c .before .before .before .before .before .before .before .before .before .before .if1 .left) (c .before .before .before .before .before .before .before .before .before .if2 .left) _ error (c .before .before .before .before .before .before .if3 .left) _ (c .before .before .before .before .before .number-in .ensures) _ (c .before .before .before .put-last-number .ensures) _
     (inner-kind (now (a .held)) (now (a .chunk)) (a .to) _ (t .0) (c .byte-over .ensures))
 
 pub open-message-spec : {M : Type 1} → statement M
@@ -69,7 +69,7 @@ open-message-spec =
     same-length
     returns-3
     number-in-requires
-    spend-requires
+    put-last-number-requires
     byte-over-requires
     same-length-2
     returns-4)

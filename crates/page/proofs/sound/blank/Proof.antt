@@ -11,19 +11,16 @@ use Rattle.page.proofs.sound.blank.Statement.{statement}
 use Rattle.page.proofs.sound.blank.Tie as tie
 
 abbrev Inv-loop : tie.InvT-loop
-Inv-loop page start end other differing₀ i₀ differing i = allBlank (slice start end page) ≡ eqb differing 0 && allBlank (slice i end page)
+Inv-loop page start end differing₀ i₀ differing i = allBlank (slice start end page) ≡ eqb differing 0 && allBlank (slice i end page)
 
 abbrev μ-loop : tie.MeasureT-loop
-μ-loop page start end other differing₀ i₀ differing i = end - i
+μ-loop page start end differing₀ i₀ differing i = end - i
 
 loop-holds : tie.Need-loop-holds Inv-loop μ-loop
 loop-holds c = search needs
 
 shared-slice-read-differing : tie.Need-shared-slice-read-differing Inv-loop μ-loop
 shared-slice-read-differing c = search needs
-
-array-read-differing : tie.Need-array-read-differing Inv-loop μ-loop
-array-read-differing c = search needs
 
 add-i : tie.Need-add-i Inv-loop μ-loop
 add-i c = search needs
@@ -45,7 +42,6 @@ blank-spec =
     μ-loop
     loop-holds
     shared-slice-read-differing
-    array-read-differing
     add-i
     loop-less
     loop-again

@@ -1,20 +1,30 @@
--- `page::sound::check_page` meets its contract: two numbers, the blank page, and the page with entries.
+-- `page::sound::check_page` meets its contract: two numbers, the blank page, and the page with entries. The part that is handed on is all of the
+-- page.
 use Prim.Native.Nat.{ℕ, _<_}
 use native.Mathlib.Omega.{arith}
-use lib.ListN.{getD}
-use borrow.Author.Needs.{needs}
+use lib.ListN.{getD, take}
 use Rattle.page.proofs.Sounds.{other-size, blank-sound, blank-not, entries-sound, entries-not}
+use borrow.Author.Needs.{needs}
 use Rattle.page.proofs.sound.check_page.Statement.{statement}
 use Rattle.page.proofs.sound.check_page.Tie as tie
 
 returns : tie.Need-returns
 returns c = search (other-size, needs)
 
+sub-whole : tie.Need-sub-whole
+sub-whole c = search needs
+
+part-whole-start : tie.Need-part-whole-start
+part-whole-start c = search needs
+
+part-whole-end : tie.Need-part-whole-end
+part-whole-end c = search needs
+
 shared-slice-read-if2 : tie.Need-shared-slice-read-if2
 shared-slice-read-if2 c = search needs
 
-blank-requires : tie.Need-blank-requires
-blank-requires c κs = search needs
+blank-from-requires : tie.Need-blank-from-requires
+blank-from-requires c κs = search needs
 
 returns-2 : tie.Need-returns-2
 returns-2 c = search (blank-sound, needs)
@@ -28,8 +38,8 @@ entries-right-requires c κs = search needs
 returns-4 : tie.Need-returns-4
 returns-4 c =
     let p = c .before .before .before in
-    let page = p .before .before .before .args .page .now in
-    let bytes : (k : ℕ) → getD page k 0 < 256 = λ k. omega (arith, p .shared-slice-known2 .given k) in
+    let page = p .before .before .before .before .args .page .now in
+    let bytes : (k : ℕ) → getD (take 64 page) k 0 < 256 = λ k. omega (arith, p .shared-slice-known2 .given k) in
     search (entries-sound, needs)
 
 returns-5 : tie.Need-returns-5
@@ -40,8 +50,11 @@ check-page-spec =
     tie.close
     (tie.spec
     returns
+    sub-whole
+    part-whole-start
+    part-whole-end
     shared-slice-read-if2
-    blank-requires
+    blank-from-requires
     returns-2
     returns-3
     entries-right-requires

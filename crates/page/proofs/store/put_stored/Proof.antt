@@ -1,6 +1,6 @@
 -- `page::store::put_stored` meets its contract: no value, and by the setting of one that is there.
-use borrow.Author.Needs.{needs}
 use Rattle.page.proofs.Drafts.{no-entry, baud-entry, accelerometer-entry, gyroscope-entry}
+use borrow.Author.Needs.{needs}
 use Rattle.page.proofs.store.put_stored.Statement.{statement}
 use Rattle.page.proofs.store.put_stored.Tie as tie
 
@@ -34,11 +34,20 @@ enum-told-4 c = search needs
 put-byte-requires-2 : tie.Need-put-byte-requires-2
 put-byte-requires-2 c κs = search needs
 
+same-length : tie.Need-same-length
+same-length c = search needs
+
 returns-2 : tie.Need-returns-2
 returns-2 c = search (baud-entry, needs)
 
+same-length-2 : tie.Need-same-length-2
+same-length-2 c = search needs
+
 returns-3 : tie.Need-returns-3
 returns-3 c = search (accelerometer-entry, needs)
+
+same-length-3 : tie.Need-same-length-3
+same-length-3 c = search needs
 
 returns-4 : tie.Need-returns-4
 returns-4 c = search (gyroscope-entry, needs)
@@ -57,6 +66,9 @@ put-stored-spec =
     put-byte-requires
     enum-told-4
     put-byte-requires-2
+    same-length
     returns-2
+    same-length-2
     returns-3
+    same-length-3
     returns-4)

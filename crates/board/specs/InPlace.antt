@@ -1,0 +1,50 @@
+-- What is proved of the calls in place, for a caller that keeps the board: put back, their answers are those of the calls by value. Proofs:
+-- proofs/InPlace `in-place-is-feed`, `in-place-is-start`.
+use mathlib.Core.List.{List}
+use mathlib.Core.Path.{_≡_}
+use Prim.Native.Nat.{ℕ}
+use lib.ListN.{length}
+use Rattle.board.specs.declared.board.Board.{Board}
+use Rattle.board.specs.declared.board.Started.{Started}
+use Rattle.board.specs.Port.{portRoom, portOf, withPort}
+use Rattle.board.specs.Start.{StartingInPlace, startOf, startPlaceOf}
+use Rattle.board.specs.Feed.{Feeding, Stepping, feedOf, placeOf}
+
+-- ---- a feed in place
+
+-- What a caller does who keeps the board: it puts the held count and the settings back; the array was written in place.
+abbrev pub putBack : ℕ → Board → Stepping → Feeding
+putBack port b t =
+    record {
+      answer = record {
+        number = t .step .number;
+        taken = t .step .taken;
+        skipped = t .step .skipped;
+        saved = t .step .saved;
+        board = withPort port b (record { bytes = t .bytes; held = t .step .held }) (t .step .settings);
+      };
+      room = t .room;
+      page = t .page;
+    }
+
+-- Then a feed in place is a feed of the board, refused or not.
+abbrev pub InPlaceIsFeed : Type 0
+InPlaceIsFeed =
+    (port : ℕ) (b : Board) (chunk room page : List ℕ) → length (portOf port b .bytes) ≡ portRoom
+    → putBack port b (placeOf port (portOf port b .bytes) (b .first .held) (b .second .held) (b .settings) chunk room page) ≡ feedOf port b chunk room page
+
+-- ---- a start in place
+
+-- What such a caller does: both held counts are 0, and the settings are put in; the arrays were written in place.
+abbrev pub putIn : StartingInPlace → Started
+putIn t =
+    record {
+      number = t .answer .number;
+      board = record { first = record { bytes = t .first; held = 0 }; second = record { bytes = t .second; held = 0 }; settings = t .answer .settings };
+    }
+
+-- Then a start in place is a start, refused or not, whatever the arrays held.
+abbrev pub InPlaceIsStart : Type 0
+InPlaceIsStart =
+    (first second page : List ℕ) → length first ≡ portRoom → length second ≡ portRoom
+    → putIn (startPlaceOf first second page) ≡ startOf page
