@@ -13,9 +13,11 @@ use Rattle.stream.specs.Seek.{resume, skippedBy}
 use Rattle.message.proofs.Windows.{drop-chunk}
 use Rattle.page.specs.Sound.{pageNumber}
 use Rattle.command.specs.declared.settings.Settings.{Settings}
+use Rattle.command.specs.declared.answer.Answer.{Answer}
 use Rattle.command.specs.Outcome.{receivedOf}
 use Rattle.command.specs.Answer.{settingsFrom, Answering, answering}
 use Rattle.command.specs.Effects.{settingsAllowed}
+use Rattle.board.specs.declared.feeding.Stepped.{Stepped}
 use Rattle.board.specs.declared.port.Port.{Port}
 use Rattle.board.specs.Port.{freshPort}
 use Rattle.board.specs.Start.{factorySettings, freshBoard, startOn, startOf, startPlaceOf}
@@ -101,6 +103,12 @@ module _ (k n : ℕ) (good : Bool) where
 module _ (k : ℕ) (good : Bool) where
   pub skipped-damaged : good ≡ false → k + 1 ≡ skippedBy k good
   skipped-damaged e = rw (e, add-one)
+
+-- What a step answers that found a message: what it took and skipped is what these say.
+pub found-reported : (held k n left : ℕ) (good : Bool) (a : Answer) (taken skipped : ℕ) → taken ≡ k + n - held → skipped ≡ skippedBy k good
+    → _≡_ {A = Stepped} (record { number = 0; taken = taken; skipped = skipped; saved = a .saved; held = left; settings = a .settings })
+    (record { number = 0; taken = k + n - held; skipped = skippedBy k good; saved = a .saved; held = left; settings = a .settings })
+found-reported held k n left good a taken skipped p q = rw (p, q)
 
 pub drop-take : (k held : ℕ) (l : List ℕ) → k ≤ held → held ≤ length l → drop k (take held l) ≡ take (held - k) (drop k l)
 drop-take k held l h s =

@@ -1,4 +1,5 @@
 -- `board::feeding::reported` meets its contract.
+use Rattle.board.proofs.Starts.{found-reported}
 use borrow.Author.Needs.{needs}
 use Rattle.board.proofs.feeding.reported.Statement.{statement}
 use Rattle.board.proofs.feeding.reported.Tie as tie
@@ -13,7 +14,7 @@ skipped-with-requires : tie.Need-skipped-with-requires
 skipped-with-requires c κs = search needs
 
 returns : tie.Need-returns
-returns c = cc
+returns c = search (found-reported, needs)
 
 pub reported-spec : {M : Type 1} → statement M
 reported-spec = tie.close (tie.spec add-excess excess-requires skipped-with-requires returns)
