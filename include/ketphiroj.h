@@ -37,7 +37,7 @@ enum {
     KETPHIROJ_DONE = 0,
     KETPHIROJ_CHUNK_USED_UP = 1, /* nothing more to report */
     KETPHIROJ_BAD_PORT = 16,     /* not 0 or 1 */
-    KETPHIROJ_BAD_BOARD = 17,    /* a port holds over 260 bytes, or a working value is not allowed */
+    KETPHIROJ_BAD_BOARD = 17,    /* a port holds over 260 bytes, or a working value is none that this board works with */
     KETPHIROJ_SHORT_ROOM = 18,   /* under 166 bytes for a feed, else shorter than what is to be written */
     KETPHIROJ_PAGE_LENGTH = 19,  /* a page is not 64 bytes */
     KETPHIROJ_BAD_PAGE = 20,     /* a page is neither blank nor sound */
@@ -48,7 +48,7 @@ enum {
     KETPHIROJ_BAD_SIZE = 25,     /* a field 0x81 or 0x82 whose size is not 12 */
     KETPHIROJ_LONG_PAYLOAD = 26, /* over 255 bytes */
     KETPHIROJ_NO_FIELD = 27,     /* no field of that number; no row of that number */
-    KETPHIROJ_NO_COMMAND = 28    /* not a command that the board accepts */
+    KETPHIROJ_NO_COMMAND = 28    /* not a command that this board accepts */
 };
 
 /* ---- the board: kept by the caller, and fed in place */
@@ -62,10 +62,11 @@ typedef struct {
     size_t held;
 } ketphiroj_port;
 
+/* The values that this board works with. Older boards had the gyroscope's ranges 6 and 7, too: a page may still keep them. */
 typedef struct {
-    uint32_t baud;
-    uint8_t accelerometer; /* ranges */
-    uint8_t gyroscope;
+    uint32_t baud;         /* 9600, 19200, 115200, 230400, 460800 or 921600 */
+    uint8_t accelerometer; /* range, 1 to 4 */
+    uint8_t gyroscope;     /* range, 1 to 5 */
 } ketphiroj_settings;
 
 typedef struct {
@@ -80,8 +81,9 @@ typedef struct {
 } ketphiroj_started;
 
 /*
- * A board with two empty ports, on the settings that the page keeps, or on the factory's for those that it does not.
- * Numbers: 0; 19, 20: the board is then on the factory's settings.
+ * A board with two empty ports, on the settings that the page keeps, or on the factory's for those that it does not. A
+ * gyroscope's range 6 or 7, which a page of an older board may keep, is not used: the board starts on the factory's, and the page
+ * stays as it is. Numbers: 0; 19, 20: the board is then on the factory's settings.
  */
 ketphiroj_started ketphiroj_start(const uint8_t *page, size_t page_length);
 
@@ -96,7 +98,8 @@ typedef struct {
  * it. `first` and `second` are the 260 bytes of ports 0 and 1, which are cleared. The caller sets both held counts to 0 and puts
  * the answer's settings into its board, as ketphiroj_start_board does: the board is then the one that ketphiroj_start answers.
  * The page is only read.
- * 0: the board starts on the settings that the page keeps, or on the factory's for those that it does not.
+ * 0: the board starts on the settings that the page keeps, or on the factory's for those that it does not, and for a
+ *    gyroscope's range 6 or 7.
  * 17: an array is not 260 bytes. Nothing was written, and the settings are the factory's.
  * 19, 20: the page is refused. Both ports were cleared all the same, and the settings are the factory's.
  */
@@ -120,6 +123,9 @@ typedef struct {
  * Bytes that open no message are skipped without a reply; so are stray A5 in front of a message, any number of them.
  * A command has 1 to 16 fields, which are handled in their order as separate commands would be; an error of one does not stop
  * those after it. Where the fields do not fill the payload exactly, or are more than 16, nothing is done, and the error is 4.
+ * The gyroscope's ranges on this board are 1 to 5. Function 1 with 6 or 7, and function 4 where the page keeps 6 or 7, are answered
+ * with error 6, not on this board: the working range and the page stay as they are. (A missing number is 5 and a wrong size 4 before
+ * that.) Function 3 writes the working range over the page's.
  * 0: a message was answered. Its reply is at the front of `room`: 4 bytes, payload, 2 bytes, where byte 3 is the length of the
  *    payload; the rest of the room is left alone. The payload has a row for each field of the command, or one row where its fields
  *    are not reached, see ketphiroj_read_reply. Where `saved`, the page was written anew and is to be stored before the reply is
@@ -200,7 +206,8 @@ ketphiroj_written ketphiroj_write_message(
 /*
  * Writes a command. Codes: 0x02 Ping, 0x01 baud rate, 0x07 accelerometer range, 0x08 gyroscope range. Functions: 1 sets the
  * value, 2 asks for it, 3 saves it, 4 loads the saved one, 5 loads the factory's. With Ping neither function nor value
- * is looked at; otherwise the value with function 1 alone. Numbers: 0; 28, 18.
+ * is looked at; otherwise the value with function 1 alone, which must be one that this board works with: the gyroscope's ranges
+ * 6 and 7 give 28. (The writer does not see the board's page: function 4 may still be answered with error 6.) Numbers: 0; 28, 18.
  */
 ketphiroj_written ketphiroj_write_command(uint8_t code, uint8_t function, uint32_t value, uint8_t *room, size_t room_length);
 
@@ -232,13 +239,14 @@ typedef struct {
      */
     uint8_t echo;
     /*
-     * 0 to 5. 1: wrong sums; 2: no such type; 3: no such code, or no field; 4: a wrong size, function or value, fields that do not
+     * 0 to 6. 1: wrong sums; 2: no such type; 3: no such code, or no field; 4: a wrong size, function or value, fields that do not
      * fill the payload or are more than 16, or a numbered command that is too short; 5: a number that is not fresh, or none
-     * where one is needed.
+     * where one is needed; 6: not on this board, the gyroscope's range 6 or 7, sent with function 1 or kept by the page under
+     * function 4.
      */
     uint8_t error;
     bool has_value;
-    uint32_t value; /* 0 where there is none */
+    uint32_t value; /* 0 where there is none; older boards report the gyroscope's ranges 6 and 7, too */
 } ketphiroj_reply;
 
 /*
@@ -272,19 +280,22 @@ ketphiroj_written ketphiroj_write_data(
 
 /* ---- the start-up page */
 
-/* The values that a page keeps. A value whose `has_` is false is absent, whatever number stands beside it. */
+/*
+ * The values that a page keeps: those of ketphiroj_settings, and the gyroscope's ranges 6 and 7 of older boards. A value whose `has_`
+ * is false is absent, whatever number stands beside it.
+ */
 typedef struct {
     bool has_baud;
     uint32_t baud;
     bool has_accelerometer;
     uint32_t accelerometer;
     bool has_gyroscope;
-    uint32_t gyroscope;
+    uint32_t gyroscope; /* 1 to 7; a start and function 4 take 1 to 5 alone */
     bool has_last_number;
     uint32_t last_number; /* the last number accepted, under code 0x70: any value */
 } ketphiroj_values;
 
-/* Is this page blank or sound? Numbers: 0; 19, 20. */
+/* Is this page blank or sound? One that keeps the gyroscope's range 6 or 7 stays sound. Numbers: 0; 19, 20. */
 uint8_t ketphiroj_check_page(const uint8_t *page, size_t page_length);
 
 /* What reading a page answers: its values, 0 beside a `has_` that is false. With any number but 0 no value is there. */
@@ -297,14 +308,15 @@ typedef struct {
 ketphiroj_page_read ketphiroj_read_page(const uint8_t *page, size_t page_length);
 
 /*
- * Writes all 64 bytes of the page, so that it keeps these values. Numbers: 0; 19, 20 (a value that is there is not allowed).
- * Not for a page that a board runs on: a smaller number, or none, lets the board accept numbers again.
+ * Writes all 64 bytes of the page, so that it keeps these values. Numbers: 0; 19, 20 (a value that is there is none that a page
+ * may keep). Not for a page that a board runs on: a smaller number, or none, lets the board accept numbers again.
  */
 uint8_t ketphiroj_write_page(ketphiroj_values values, uint8_t *page, size_t page_length);
 
 /*
  * Copies the bytes under a code to the room's front: from the saved page if it has an entry, else from the factory page; length
- * 0 where neither has one. The factory page keeps no number (0x70). Numbers: 0; 19, 20 of the saved page, then 19, 20 of the
+ * 0 where neither has one. The factory page keeps no number (0x70). A gyroscope's range 6 or 7 of an older board is copied as it
+ * stands; a start and function 4 do not take it. Numbers: 0; 19, 20 of the saved page, then 19, 20 of the
  * factory page, then 18.
  */
 ketphiroj_written ketphiroj_copy_body(

@@ -105,7 +105,7 @@ static void settings_are_looked_at(void) {
     bad.settings.accelerometer = 5;
     agree(feed(0, bad, room, 0).answer.number == KETPHIROJ_BAD_BOARD, "settings.accelerometer");
     bad = good;
-    bad.settings.gyroscope = 8;
+    bad.settings.gyroscope = 6;
     agree(feed(0, bad, room, 0).answer.number == KETPHIROJ_BAD_BOARD, "settings.gyroscope");
     bad = good;
     bad.first.held = 261;
@@ -148,7 +148,7 @@ static void values_pass(void) {
     agree(ketphiroj_write_page(w, page, sizeof page) == KETPHIROJ_DONE, "values written");
     agree(keeps((ketphiroj_values){true, 9600, false, 0, true, 7, false, 0}), "values back");
     w.has_accelerometer = true;
-    agree(ketphiroj_write_page(w, page, sizeof page) == KETPHIROJ_BAD_PAGE, "a value that is not allowed");
+    agree(ketphiroj_write_page(w, page, sizeof page) == KETPHIROJ_BAD_PAGE, "a value that no page may keep");
     ketphiroj_values one = {false, 9600, true, 4, false, 7, false, 5};
     agree(ketphiroj_write_page(one, page, sizeof page) == KETPHIROJ_DONE, "one value written");
     agree(keeps((ketphiroj_values){false, 0, true, 4, false, 0, false, 0}), "one value back");
@@ -238,7 +238,7 @@ static void fields_are_appended(void) {
     agree(w.number == KETPHIROJ_DONE && w.length == 7, "a field with a value");
     w = ketphiroj_append_field(0x02, 0x08, 3, 99, 7, payload, 10);
     agree(w.number == KETPHIROJ_DONE && w.length == 10, "a field without a value, behind it");
-    w = ketphiroj_append_field(0x02, 0x08, 1, 7, 8, payload, sizeof payload);
+    w = ketphiroj_append_field(0x02, 0x08, 1, 5, 8, payload, sizeof payload);
     agree(w.number == KETPHIROJ_SHORT_ROOM && w.length == 0, "a field without room");
     w = ketphiroj_append_field(0x01, 0x02, 0, 0, SIZE_MAX, payload, sizeof payload);
     agree(w.number == KETPHIROJ_SHORT_ROOM && w.length == 0, "a length over the room");
@@ -282,7 +282,7 @@ static void settings_come_back(void) {
 
 /* An array of `length` bytes for port 0, which holds 4 of them, and the rest of a command. */
 static ketphiroj_stepped feed_array(uint8_t *bytes, size_t length) {
-    ketphiroj_settings settings = {9600, 1, 7};
+    ketphiroj_settings settings = {9600, 1, 5};
     memcpy(bytes, set_accelerometer, 4);
     return ketphiroj_feed_in_place(
         0, bytes, length, 4, 9, settings, set_accelerometer + 4, sizeof set_accelerometer - 4, room, sizeof room, page,
@@ -297,11 +297,11 @@ static void arrays_are_measured(void) {
         ketphiroj_stepped s = feed_array(bytes, wrong[i]);
         agree(s.number == KETPHIROJ_BAD_BOARD && s.taken == 0 && s.skipped == 0 && !s.saved, "an array that is not 260 bytes");
         agree(s.held == 4 && memcmp(bytes, set_accelerometer, 4) == 0, "what a refused array holds");
-        agree(s.settings.baud == 9600 && s.settings.accelerometer == 1 && s.settings.gyroscope == 7, "settings refused");
+        agree(s.settings.baud == 9600 && s.settings.accelerometer == 1 && s.settings.gyroscope == 5, "settings refused");
     }
     ketphiroj_stepped s = feed_array(bytes, KETPHIROJ_PORT_ROOM);
     agree(s.number == KETPHIROJ_DONE && s.held == 0, "an array of 260 bytes");
-    agree(s.settings.baud == 9600 && s.settings.accelerometer == 3 && s.settings.gyroscope == 7, "settings answered");
+    agree(s.settings.baud == 9600 && s.settings.accelerometer == 3 && s.settings.gyroscope == 5, "settings answered");
 }
 
 /* A board of no zero byte, with counts and settings that no start answers. */
@@ -330,13 +330,13 @@ static void starts_in_place(void) {
     uint8_t given[KETPHIROJ_PAGE_SIZE + 1];
     memset(given, 0xFF, sizeof given);
     same_start(given, KETPHIROJ_PAGE_SIZE, "a start in place on a blank page");
-    ketphiroj_values values = {true, 921600, true, 4, true, 7, true, 0xFEDCBA98};
+    ketphiroj_values values = {true, 921600, true, 4, true, 5, true, 0xFEDCBA98};
     agree(ketphiroj_write_page(values, given, KETPHIROJ_PAGE_SIZE) == KETPHIROJ_DONE, "a page of four entries");
     same_start(given, KETPHIROJ_PAGE_SIZE, "a start in place on four entries");
     ketphiroj_board board = dirty_board();
     agree(ketphiroj_start_board(&board, given, KETPHIROJ_PAGE_SIZE) == KETPHIROJ_DONE, "number of a start in place");
     ketphiroj_settings now = board.settings;
-    agree(now.baud == 921600 && now.accelerometer == 4 && now.gyroscope == 7, "settings of a start in place");
+    agree(now.baud == 921600 && now.accelerometer == 4 && now.gyroscope == 5, "settings of a start in place");
     same_start(given, KETPHIROJ_PAGE_SIZE - 1, "a start in place on 63 bytes");
     same_start(given, KETPHIROJ_PAGE_SIZE + 1, "a start in place on 65 bytes");
     given[0] = 5;
@@ -375,23 +375,42 @@ static void started_arrays_are_measured(void) {
 /* A numbered command, each argument in its place, taken by a board; the page keeps the number. */
 static void numbers_pass(void) {
     static const uint8_t expected[] = {
-        0xA5, 0xA5, 0x7C, 0x09, 0xFE, 0xDC, 0xBA, 0x98, 0x02, 0x08, 0x02, 0x01, 0x07, 0x0F, 0x78, 0x77};
+        0xA5, 0xA5, 0x7C, 0x09, 0xFE, 0xDC, 0xBA, 0x98, 0x02, 0x08, 0x02, 0x01, 0x05, 0x0D, 0x76, 0x77};
     uint8_t message[sizeof expected];
     memset(message, 0x77, sizeof message);
-    ketphiroj_written w = ketphiroj_write_numbered(0xFEDCBA98, 0x08, 1, 7, message, sizeof message);
+    ketphiroj_written w = ketphiroj_write_numbered(0xFEDCBA98, 0x08, 1, 5, message, sizeof message);
     agree(w.number == KETPHIROJ_DONE && w.length == 15 && memcmp(message, expected, sizeof expected) == 0, "a number");
-    w = ketphiroj_write_numbered(1, 0x08, 1, 8, message, 0);
+    w = ketphiroj_write_numbered(1, 0x08, 1, 6, message, 0);
     agree(w.number == KETPHIROJ_NO_COMMAND && w.length == 0, "a numbered command that is none");
-    w = ketphiroj_write_numbered(1, 0x08, 1, 7, message, 14);
+    w = ketphiroj_write_numbered(1, 0x08, 1, 5, message, 14);
     agree(w.number == KETPHIROJ_SHORT_ROOM && w.length == 0, "a numbered command without room");
     memset(page, 0xFF, sizeof page);
     fed_board fed = feed(0, ketphiroj_start(page, sizeof page).board, message, 15);
-    agree(fed.answer.number == KETPHIROJ_DONE && fed.answer.saved && fed.board.settings.gyroscope == 7, "a number taken");
+    agree(fed.answer.number == KETPHIROJ_DONE && fed.answer.saved && fed.board.settings.gyroscope == 5, "a number taken");
     agree(keeps((ketphiroj_values){false, 0, false, 0, false, 0, true, 0xFEDCBA98}), "the number that a page keeps");
     fed = feed(1, fed.board, message, 15);
     agree(fed.answer.number == KETPHIROJ_DONE && !fed.answer.saved, "a number again");
     ketphiroj_reply r = ketphiroj_read_reply(room, 6u + room[3], 0);
     agree(r.number == KETPHIROJ_DONE && r.kind == KETPHIROJ_NUMBERED && r.echo == 0x08 && r.error == 5, "error 5");
+}
+
+/* A page that keeps a gyroscope's range of older boards: the start, error 6 of a load, and what the writer and the reader know. */
+static void old_ranges_pass(void) {
+    static const uint8_t reported[] = {0x80, 0x02, 0x08, 0x00, 0x08, 0x01, 0x07};
+    ketphiroj_values old = {false, 0, false, 0, true, 7, false, 0};
+    agree(ketphiroj_write_page(old, page, sizeof page) == KETPHIROJ_DONE && keeps(old), "an old page");
+    ketphiroj_started started = ketphiroj_start(page, sizeof page);
+    agree(started.number == KETPHIROJ_DONE && started.board.settings.gyroscope == 3, "a start on an old page");
+    started.board.settings.gyroscope = 5;
+    uint8_t load[9];
+    agree(ketphiroj_write_command(0x08, 4, 7, load, sizeof load).number == KETPHIROJ_DONE, "a load written");
+    fed_board fed = feed(0, started.board, load, sizeof load);
+    agree(fed.answer.number == KETPHIROJ_DONE && !fed.answer.saved && fed.board.settings.gyroscope == 5, "a load refused");
+    ketphiroj_reply r = ketphiroj_read_reply(room, 6u + room[3], 0);
+    agree(r.number == KETPHIROJ_DONE && r.echo == 0x08 && r.error == 6 && keeps(old), "error 6");
+    agree(ketphiroj_write_command(0x08, 1, 7, load, 0).number == KETPHIROJ_NO_COMMAND, "an old range to be written");
+    r = reply_of(0x02, reported, sizeof reported, 0);
+    agree(r.number == KETPHIROJ_DONE && r.has_value && r.value == 7, "an old range reported");
 }
 
 int main(void) {
@@ -410,6 +429,7 @@ int main(void) {
     starts_in_place();
     started_arrays_are_measured();
     numbers_pass();
+    old_ranges_pass();
     printf("layout: %d agree, %d differ\n", agreeing, differing);
     return differing != 0;
 }

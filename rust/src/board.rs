@@ -33,7 +33,7 @@ impl Default for Port {
     }
 }
 
-/// The working values.
+/// The values that this board works with.
 #[derive(Clone, Copy, Debug, PartialEq, Eq)]
 #[repr(C)]
 pub struct Settings {
@@ -41,15 +41,15 @@ pub struct Settings {
     pub baud: u32,
     /// The code of the accelerometer's range, 1 to 4.
     pub accelerometer: u8,
-    /// The code of the gyroscope's range, 1 to 7.
+    /// The code of the gyroscope's range, 1 to 5. Older boards had 6 and 7, too.
     pub gyroscope: u8,
 }
 
 /// The board's state between two feeds: two ports and the working values.
 ///
 /// It is plain data, to be kept, copied and sent as one likes. The next feed refuses it ([`Refusal::Unsound`]) where a
-/// held count, of either port, is over 260 or a working value is not allowed. Any held bytes are accepted, and any bytes
-/// past them.
+/// held count, of either port, is over 260 or a value is none that this board works with. Any held bytes are accepted,
+/// and any bytes past them.
 #[derive(Clone, Copy, Debug, PartialEq, Eq)]
 #[repr(C)]
 pub struct Board {
@@ -106,17 +106,25 @@ impl Board {
     /// The longest reply, to a command of 16 fields, and the least room of a feed.
     pub const REPLY: usize = 166;
 
-    /// Starts a board on the values that the page keeps, or the factory's where it keeps none.
+    /// Starts a board on the values that the page keeps, or the factory's where it keeps none. A page of an older board
+    /// may keep the gyroscope's range 6 or 7, which this board does not have: it starts on the factory's, and the page
+    /// stays as it is.
     ///
     /// Refuses with [`Refusal::PageLength`] and [`Refusal::Page`].
     ///
     /// ```
-    /// use ketphiroj::{Board, Refusal};
+    /// use ketphiroj::{Board, Refusal, Values};
     ///
     /// let board = Board::start(&[0xFF; 64])?;
     /// assert_eq!(board.settings.baud, 115200);
     /// assert_eq!(Board::start(&[0xFF; 63]), Err(Refusal::PageLength));
     /// assert_eq!(Board::start(&[0x00; 64]), Err(Refusal::Page));
+    ///
+    /// // The page of an older board.
+    /// let mut page = [0xFF; 64];
+    /// Values { accelerometer: Some(4), gyroscope: Some(7), ..Values::default() }.write(&mut page)?;
+    /// let settings = Board::start(&page)?.settings;
+    /// assert_eq!((settings.accelerometer, settings.gyroscope), (4, 3));
     /// # Ok::<(), Refusal>(())
     /// ```
     pub fn start(page: &[u8]) -> Result<Board, Refusal> {
@@ -173,6 +181,10 @@ impl Board {
     /// row for each. Where the fields do not fill the payload, or are more than 16, nothing is done, and the reply has
     /// one row with error 4.
     ///
+    /// The gyroscope's ranges on this board are 1 to 5. Function 1 with 6 or 7, and function 4 where the page keeps 6 or 7,
+    /// are answered with error 6, and the working range and the page stay as they are. (A missing number is 5 and a wrong
+    /// size 4 before that.) Function 3 writes the working range over the page's.
+    ///
     /// A numbered command (type 7C: a number of four bytes, then a command's type and its fields) is accepted on either
     /// port where its number is fresh: larger than the one that the page keeps, or any where it keeps none. The number is
     /// then written to the page and the command is handled; the number is spent even where that gives an error. A number
@@ -217,6 +229,26 @@ impl Board {
     /// assert_eq!(replies[0], (vec![0xA5, 0xA5, 0x01, 0x04, 0x80, 0x02, 0x02, 0x01, 0xD4, 0xD0], false));
     /// assert!(replies[1].1);
     /// assert_eq!(page[..8], [0x01, 0x01, 0x04, 0x04, 0x00, 0x01, 0xC2, 0x00]);
+    /// # Ok::<(), Refusal>(())
+    /// ```
+    ///
+    /// A load from the page of an older board:
+    ///
+    /// ```
+    /// use ketphiroj::{code, function, read_reply, write_command, Board, Outcome, Refusal, Values};
+    ///
+    /// let mut page = [0xFF; 64];
+    /// Values { gyroscope: Some(6), ..Values::default() }.write(&mut page)?;
+    /// let mut board = Board::start(&page)?;
+    /// board.settings.gyroscope = 5;
+    ///
+    /// let mut room = [0; Board::REPLY];
+    /// let mut load = [0; 9];
+    /// write_command(code::GYROSCOPE, function::LOAD, 0, &mut load)?;
+    /// let outcome = board.feed(0, &load, &mut room, &mut page)?;
+    /// assert_eq!(outcome, Outcome::Reported { taken: 9, skipped: 0, saved: false, reply: 10 });
+    /// assert_eq!(read_reply(&room[..10], 0)?.error, 6);
+    /// assert_eq!((board.settings.gyroscope, Values::read(&page)?.gyroscope), (5, Some(6)));
     /// # Ok::<(), Refusal>(())
     /// ```
     ///

@@ -70,7 +70,7 @@ pub struct FlatReply {
     pub kind: u8,
     /// The echo.
     pub echo: u8,
-    /// The error, 0 to 5.
+    /// The error, 0 to 6.
     pub error: u8,
     /// Whether a value was reported.
     pub has_value: bool,

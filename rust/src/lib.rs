@@ -2,7 +2,7 @@
 //! ports.
 //!
 //! The library is written in Rattle and proved; `rt staticlib capi` writes it as a static library, and this crate links
-//! it. What each call answers is the paper's ("01", the board's protocol, line by line, with requests 01 to 03 of the
+//! it. What each call answers is the paper's ("01", the board's protocol, line by line, with requests 01 to 05 of the
 //! change requests), or for a call that the paper does not list what docs/DECISIONS.md says, for every input. Nothing
 //! here adds to it: refusals become the errors of [`Refusal`], numbers become enums, and lengths become slices.
 //!

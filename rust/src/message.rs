@@ -77,7 +77,8 @@ pub fn write_message(kind: u8, payload: &[u8], room: &mut [u8]) -> Result<usize,
 /// Writes the command of this code and function to the room's front, and gives its length: function 1 with the value,
 /// the functions 2 to 5 without, Ping without both. What is not written is not looked at.
 ///
-/// Refuses with [`Refusal::Command`] and [`Refusal::Room`].
+/// Refuses with [`Refusal::Command`], also for the gyroscope's ranges 6 and 7, which this board does not have, and with
+/// [`Refusal::Room`]. (The writer does not see the board's page: function 4 may still be answered with error 6.)
 ///
 /// ```
 /// use ketphiroj::{code, function, write_command, Refusal};
@@ -86,6 +87,8 @@ pub fn write_message(kind: u8, payload: &[u8], room: &mut [u8]) -> Result<usize,
 /// assert_eq!(write_command(code::ACCELEROMETER, function::USE, 2, &mut room), Ok(10));
 /// assert_eq!(room[..10], [0xA5, 0xA5, 0x02, 0x04, 0x07, 0x02, 0x01, 0x02, 0x5C, 0xF1]);
 /// assert_eq!(write_command(code::ACCELEROMETER, function::USE, 5, &mut room), Err(Refusal::Command));
+/// assert_eq!(write_command(code::GYROSCOPE, function::USE, 5, &mut room), Ok(10));
+/// assert_eq!(write_command(code::GYROSCOPE, function::USE, 6, &mut room), Err(Refusal::Command));
 /// ```
 pub fn write_command(code: u8, function: u8, value: u32, room: &mut [u8]) -> Result<usize, Refusal> {
     length_of(ffi::write_command(code, function, value, room))
@@ -127,23 +130,23 @@ pub fn write_numbered(number: u32, code: u8, function: u8, value: u32, room: &mu
 ///
 /// let mut payload = [0; 255];
 /// let mut length = 0;
-/// for (code, value) in [(code::BAUD, 921600), (code::ACCELEROMETER, 4), (code::GYROSCOPE, 7)] {
+/// for (code, value) in [(code::BAUD, 921600), (code::ACCELEROMETER, 4), (code::GYROSCOPE, 5)] {
 ///     length = append_field(0x02, code, function::USE, value, length, &mut payload)?;
 /// }
-/// assert_eq!(payload[..length], [1, 5, 1, 0x00, 0x0E, 0x10, 0x00, 7, 2, 1, 4, 8, 2, 1, 7]);
+/// assert_eq!(payload[..length], [1, 5, 1, 0x00, 0x0E, 0x10, 0x00, 7, 2, 1, 4, 8, 2, 1, 5]);
 /// let mut room = [0; 32];
 /// assert_eq!(write_message(0x02, &payload[..length], &mut room), Ok(21));
 ///
 /// // The same with the number 7.
 /// payload[..5].copy_from_slice(&[0, 0, 0, 7, 0x02]);
 /// let mut length = 5;
-/// for (code, value) in [(code::BAUD, 921600), (code::ACCELEROMETER, 4), (code::GYROSCOPE, 7)] {
+/// for (code, value) in [(code::BAUD, 921600), (code::ACCELEROMETER, 4), (code::GYROSCOPE, 5)] {
 ///     length = append_field(0x02, code, function::USE, value, length, &mut payload)?;
 /// }
 /// assert_eq!(write_message(NUMBERED, &payload[..length], &mut room), Ok(26));
 ///
-/// assert_eq!(append_field(0x02, code::GYROSCOPE, function::USE, 8, 0, &mut []), Err(Refusal::Command));
-/// assert_eq!(append_field(0x02, code::GYROSCOPE, function::USE, 7, 0, &mut []), Err(Refusal::Room));
+/// assert_eq!(append_field(0x02, code::GYROSCOPE, function::USE, 6, 0, &mut []), Err(Refusal::Command));
+/// assert_eq!(append_field(0x02, code::GYROSCOPE, function::USE, 5, 0, &mut []), Err(Refusal::Room));
 /// # Ok::<(), Refusal>(())
 /// ```
 pub fn append_field(

@@ -7,14 +7,15 @@ use crate::refusal::{done_or_refused, Refusal};
 /// The length of a page.
 pub const PAGE: usize = 64;
 
-/// The values that a page keeps, one or none under each code.
+/// The values that a page keeps, one or none under each code: those of [`Settings`](crate::Settings), and the gyroscope's
+/// ranges 6 and 7 of older boards.
 #[derive(Clone, Copy, Debug, Default, PartialEq, Eq)]
 pub struct Values {
     /// Under code 01.
     pub baud: Option<u32>,
     /// Under code 07.
     pub accelerometer: Option<u32>,
-    /// Under code 08.
+    /// Under code 08: 1 to 7. A start and function 4 take 1 to 5 alone.
     pub gyroscope: Option<u32>,
     /// Under code 70: the last number accepted, of any value. Where there is one, port 0 takes a command that would change
     /// something only with a larger number ([`Board::feed`](crate::Board::feed)).
@@ -34,7 +35,11 @@ impl Values {
     /// assert_eq!(Values::read(&page)?, factory);
     /// assert_eq!(Values::read(&[0xFF; 64])?, Values::default());
     ///
-    /// // A gyroscope's range that is not allowed: no value of the page is read.
+    /// // A gyroscope's range of an older board is read.
+    /// page[15] = 7;
+    /// assert_eq!(Values::read(&page)?, Values { gyroscope: Some(7), ..factory });
+    ///
+    /// // One that no board has: no value of the page is read.
     /// page[15] = 8;
     /// assert_eq!(Values::read(&page), Err(Refusal::Page));
     /// assert_eq!(Values::read(&page[..63]), Err(Refusal::PageLength));
@@ -54,7 +59,7 @@ impl Values {
     /// Writes the page anew so that it keeps these values; blank with none. It is for pages that no board runs on: a page
     /// that is given a smaller number, or none, lets a board accept numbers again that it has accepted before.
     ///
-    /// Refuses with [`Refusal::PageLength`], and with [`Refusal::Page`] where a value is not allowed.
+    /// Refuses with [`Refusal::PageLength`], and with [`Refusal::Page`] where a value is none that a page may keep.
     ///
     /// ```
     /// use ketphiroj::{Refusal, Values};

@@ -19,7 +19,7 @@ use std::fmt;
 pub enum Refusal {
     /// The port is not 0 or 1.
     Port = 16,
-    /// The board is unsound: a port holds over 260, or a working value is not allowed.
+    /// The board is unsound: a port holds over 260, or a working value is none that this board works with.
     Unsound = 17,
     /// The room is too small: under 166 bytes for a feed, otherwise shorter than what is to be written.
     Room = 18,
@@ -41,7 +41,7 @@ pub enum Refusal {
     Payload = 26,
     /// Data reader: no field of that number, counted from 0. Reply reader: no row of that number.
     NoField = 27,
-    /// The command to be written is not one that the board accepts.
+    /// The command to be written is not one that this board accepts.
     Command = 28,
 }
 

@@ -11,11 +11,12 @@ pub struct Reply {
     /// The field's code; in the one row of a command whose fields were not reached, its first payload byte, or 0 if it
     /// had none. In type 7C that is the first byte behind the number and the type inside, but where the sums are wrong.
     pub echo: u8,
-    /// 0 done, 1 sums wrong, 2 unknown type, 3 unknown code or no field, 4 not allowed, or the fields do not fill the
-    /// payload or are more than 16, or a numbered command is too short, 5 the number is not fresh, or there is none where
-    /// one is needed.
+    /// 0 done, 1 sums wrong, 2 unknown type, 3 unknown code or no field, 4 a wrong size, function or value, or the fields
+    /// do not fill the payload or are more than 16, or a numbered command is too short, 5 the number is not fresh, or there
+    /// is none where one is needed, 6 not on this board: the gyroscope's range 6 or 7, sent or kept by the page.
     pub error: u8,
-    /// The working value, where one was reported; its code is the echo.
+    /// The working value, where one was reported; its code is the echo. Older boards report the gyroscope's ranges 6 and 7,
+    /// too.
     pub value: Option<u32>,
 }
 
@@ -31,6 +32,10 @@ pub struct Reply {
 /// let reply = read_reply(&message, 0)?;
 /// assert_eq!(reply, Reply { kind: 0x02, echo: code::GYROSCOPE, error: 0, value: Some(3) });
 /// assert_eq!(read_reply(&message, 1), Err(Refusal::NoField));
+///
+/// // From an older board.
+/// let message = [0xA5, 0xA5, 0x02, 0x07, 0x80, 0x02, 0x08, 0x00, 0x08, 0x01, 0x07, 0xED, 0xA8];
+/// assert_eq!(read_reply(&message, 0)?.value, Some(7));
 /// # Ok::<(), Refusal>(())
 /// ```
 pub fn read_reply(message: &[u8], row: usize) -> Result<Reply, Refusal> {

@@ -1,4 +1,5 @@
-//! The paper's sample lines through the wrapper, starts in place, every refusal, and numbered commands over a power cut.
+//! The paper's sample lines through the wrapper, starts in place, every refusal, numbered commands over a power cut, and the
+//! gyroscope's ranges of older boards.
 
 use ketphiroj::{
     append_field, check_message, check_page, code, copy_body, factory_page, field_data, function, read_field,
@@ -133,11 +134,11 @@ fn command(function: u8, settings: &[(u8, u32)]) -> Vec<u8> {
 /// Three settings set in one command, saved in another, and loaded after a restart.
 #[test]
 fn three_settings() {
-    let three = [(code::BAUD, 921600), (code::ACCELEROMETER, 4), (code::GYROSCOPE, 7)];
-    let settings = Settings { baud: 921600, accelerometer: 4, gyroscope: 7 };
+    let three = [(code::BAUD, 921600), (code::ACCELEROMETER, 4), (code::GYROSCOPE, 5)];
+    let settings = Settings { baud: 921600, accelerometer: 4, gyroscope: 5 };
     let (mut board, mut page) = fresh();
     let set = command(function::USE, &three);
-    assert_eq!(set, hex("A5A5020F 010501000E1000 07020104 08020107 A016"));
+    assert_eq!(set, hex("A5A5020F 010501000E1000 07020104 08020105 9E14"));
     let done = hex("A5A5020C 80020100 80020700 80020800 EE21");
     assert_eq!(replies(&mut board, &set, &mut page), std::slice::from_ref(&done));
     assert_eq!((board.settings, page), (settings, BLANK));
@@ -147,7 +148,7 @@ fn three_settings() {
     let saved = board.feed(0, &save, &mut room, &mut page);
     assert_eq!(saved, Ok(Outcome::Reported { taken: 15, skipped: 0, saved: true, reply: 18 }));
     assert_eq!(room[..18], done);
-    assert_eq!(page[..16], hex("03 010A04 070E01 080F01 000E1000 04 07"));
+    assert_eq!(page[..16], hex("03 010A04 070E01 080F01 000E1000 04 05"));
 
     // Starting takes them from the page, and so does a load after others were set.
     let mut board = Board::start(&page).unwrap();
@@ -177,8 +178,9 @@ fn errors_among_fields() {
         let rows: Vec<(u8, u8)> = read_rows(&replies[0]).unwrap().map(|row| (row.echo, row.error)).collect();
         (rows, board.settings.gyroscope, page != BLANK)
     };
-    assert_eq!(reply(0x02, "08020108 6300 08020107 080103"), (vec![(8, 4), (0x63, 3), (8, 0), (8, 0)], 7, true));
-    assert_eq!(reply(0x02, "08020107 080103 08"), (vec![(8, 4)], 3, false));
+    assert_eq!(reply(0x02, "08020108 6300 08020105 080103"), (vec![(8, 4), (0x63, 3), (8, 0), (8, 0)], 5, true));
+    assert_eq!(reply(0x02, "08020107 08020105 080103"), (vec![(8, 6), (8, 0), (8, 0)], 5, true));
+    assert_eq!(reply(0x02, "08020105 080103 08"), (vec![(8, 4)], 3, false));
     assert_eq!(reply(0x02, "63"), (vec![(0x63, 4)], 3, false));
     assert_eq!(reply(0x01, &"0200".repeat(16)), (vec![(2, 0); 16], 3, false));
     assert_eq!(reply(0x01, &"0200".repeat(17)), (vec![(2, 4)], 3, false));
@@ -251,7 +253,7 @@ fn numbered(number: u32, code: u8, function: u8, value: u32) -> Vec<u8> {
 /// its field, one that fails as a whole, a load, the factory value, a report and a Ping. The errors are those of the
 /// day, of its replay without numbers on port 0, and on port 1.
 fn day() -> Vec<(Vec<u8>, [Vec<u8>; 3])> {
-    let three = hex("00000003 02 010501000E1000 07020101 08020107 080103");
+    let three = hex("00000003 02 010501000E1000 07020101 08020105 080103");
     let same = |errors: &[u8]| [errors.to_vec(), errors.to_vec(), errors.to_vec()];
     let refused = |errors: &[u8]| [errors.to_vec(), vec![5; errors.len()], errors.to_vec()];
     vec![
@@ -273,10 +275,10 @@ fn the_day_after() -> Driver {
     for (command, [errors, ..]) in day() {
         assert_eq!(driver.errors(0, &command), errors);
     }
-    assert_eq!(driver.board.settings, Settings { baud: 115200, accelerometer: 4, gyroscope: 7 });
+    assert_eq!(driver.board.settings, Settings { baud: 115200, accelerometer: 4, gyroscope: 5 });
     assert_eq!(driver.last_number(), Some(9));
     let driver = driver.cut();
-    assert_eq!(driver.page[..16], hex("03 070A01 080B01 700C04 04 07 00000009"));
+    assert_eq!(driver.page[..16], hex("03 070A01 080B01 700C04 04 05 00000009"));
     driver
 }
 
@@ -364,6 +366,7 @@ fn numbered_commands_refused() {
         ("00000065 02 63", 0x63, 4, true),
         ("00000065 02 6300", 0x63, 3, true),
         ("00000065 02 08020108", 8, 4, true),
+        ("00000065 02 08020106", 8, 6, true),
     ] {
         let mut page = BLANK;
         Values { last_number: Some(100), ..Values::default() }.write(&mut page).unwrap();
@@ -384,6 +387,112 @@ fn numbered_commands_refused() {
         assert_eq!(outcome, Outcome::Reported { taken: bytes.len(), skipped: 1, saved: false, reply: 10 });
         assert_eq!((room[6..8].to_vec(), page), (vec![0, 1], BLANK));
     }
+}
+
+/// A page with this range of the gyroscope and no other value.
+fn page_with(gyroscope: u32) -> [u8; PAGE] {
+    let mut page = BLANK;
+    Values { gyroscope: Some(gyroscope), ..Values::default() }.write(&mut page).unwrap();
+    page
+}
+
+/// The page of an older board stays sound and is read, but a start takes the factory's range, and a load is refused. A save
+/// ends it.
+#[test]
+fn old_page() {
+    for range in [6, 7] {
+        let page = page_with(range);
+        assert_eq!(check_page(&page), Ok(()));
+        assert_eq!(Values::read(&page).unwrap().gyroscope, Some(range));
+        let mut driver = Driver::start(page);
+        assert_eq!(driver.board, fresh().0);
+
+        let load = command(function::LOAD, &[(code::GYROSCOPE, 0)]);
+        assert_eq!(driver.errors(0, &command(function::USE, &[(code::GYROSCOPE, 5)])), [0]);
+        assert_eq!(driver.errors(0, &load), [6]);
+        assert_eq!(driver.errors(1, &load), [6]);
+        assert_eq!((driver.board.settings.gyroscope, driver.page), (5, page));
+
+        // The power is cut: again it is the factory's.
+        let mut driver = driver.cut();
+        assert_eq!((driver.board.settings.gyroscope, driver.page), (3, page));
+        assert_eq!(driver.errors(0, &command(function::USE, &[(code::GYROSCOPE, 4)])), [0]);
+        assert_eq!(driver.errors(0, &command(function::SAVE, &[(code::GYROSCOPE, 0)])), [0]);
+        assert_eq!(driver.page, page_with(4));
+        let mut driver = driver.cut();
+        assert_eq!((driver.board.settings.gyroscope, driver.errors(0, &load)), (4, vec![0]));
+    }
+}
+
+/// On such a page all other functions go on, and the entry stays until the range is saved; the number is spent where the
+/// command inside gets 6, and 5 comes before 6.
+#[test]
+fn old_page_and_numbers() {
+    let mut driver = Driver::start(page_with(6));
+    let load = |number| numbered(number, code::GYROSCOPE, function::LOAD, 0);
+    assert_eq!(driver.errors(0, &load(1)), [6]);
+    assert_eq!(driver.page[..13], hex("02 080701 700804 06 00000001 FF"));
+    assert_eq!(driver.errors(0, &load(1)), [5]);
+    for function in [function::LOAD, function::SAVE, function::FACTORY] {
+        assert_eq!(driver.errors(0, &command(function, &[(code::GYROSCOPE, 0)])), [5]);
+    }
+    assert_eq!(driver.errors(0, &message(0x02, &hex("08020106"))), [5]);
+    assert_eq!(driver.errors(1, &message(0x02, &hex("08020106 080104 080105 080102 070103"))), [6, 6, 0, 0, 0]);
+    assert_eq!(driver.page[..17], hex("03 070A01 080B01 700C04 02 06 00000001 FF"));
+    assert_eq!(driver.errors(1, &command(function::SAVE, &[(code::GYROSCOPE, 0)])), [0]);
+    assert_eq!(driver.errors(0, &load(2)), [0]);
+}
+
+/// What is sent with function 1: 6 and 7 are error 6 where the size is right; other ranges that no board has are 4. The
+/// value sent with function 4 is not looked at.
+#[test]
+fn ranges_sent() {
+    for (field, error) in [
+        ("08020100", 4),
+        ("08020101", 0),
+        ("08020105", 0),
+        ("08020106", 6),
+        ("08020107", 6),
+        ("08020108", 4),
+        ("0803010606", 4),
+        ("080101", 4),
+        ("08020006", 4),
+        ("08020606", 4),
+        ("08020206", 0),
+        ("08020406", 0),
+        ("07020105", 4),
+        ("07020106", 4),
+    ] {
+        let mut driver = Driver::start(BLANK);
+        assert_eq!(driver.errors(0, &message(0x02, &hex(field))), [error], "{field}");
+        let used = if error == 0 && field.starts_with("080201") { hex(field)[3] } else { 3 };
+        assert_eq!((driver.board.settings.gyroscope, driver.page), (used, BLANK), "{field}");
+    }
+    let mut driver = Driver::start(page_with(7));
+    assert_eq!(driver.errors(0, &message(0x02, &hex("08020401 0803040101"))), [6, 4]);
+}
+
+/// The controller's side: a command with 6 or 7 is not written; a reply with them, or with error 6, is read.
+#[test]
+fn old_ranges_written_and_read() {
+    let mut room = [0x11; 32];
+    for range in [6, 7] {
+        assert_eq!(write_command(code::GYROSCOPE, function::USE, range, &mut room), Err(Refusal::Command));
+        assert_eq!(write_numbered(1, code::GYROSCOPE, function::USE, range, &mut room), Err(Refusal::Command));
+        assert_eq!(append_field(0x02, code::GYROSCOPE, function::USE, range, 0, &mut room), Err(Refusal::Command));
+        assert_eq!(room, [0x11; 32]);
+        for kind in [0x02, NUMBERED] {
+            let value = Reply { kind, echo: code::GYROSCOPE, error: 0, value: Some(range) };
+            assert_eq!(read_reply(&message(kind, &[0x80, 2, 8, 0, 8, 1, range as u8]), 0), Ok(value));
+        }
+    }
+    // What is not written is not looked at.
+    assert_eq!(write_command(code::GYROSCOPE, function::LOAD, 6, &mut room), Ok(9));
+    let error = Reply { kind: 0x02, echo: code::GYROSCOPE, error: 6, value: None };
+    assert_eq!(read_reply(&hex("A5A50204 80020806 E0E7"), 0), Ok(error));
+    assert_eq!(read_reply(&message(0x02, &hex("80020807")), 0), Err(Refusal::Kind));
+    assert_eq!(read_reply(&message(0x02, &hex("80020806 080106")), 0), Err(Refusal::Kind));
+    assert_eq!(read_reply(&message(0x02, &hex("80020800 080108")), 0), Err(Refusal::Kind));
 }
 
 /// Boards that no start gives: sound ones that hold bytes on other settings, and one that a feed would refuse.
@@ -412,6 +521,7 @@ fn starts_in_place() {
     let pages = [
         BLANK,
         factory_page(),
+        page(Some(921600), Some(4), Some(5), Some(u32::MAX)),
         page(Some(921600), Some(4), Some(7), Some(u32::MAX)),
         page(None, Some(4), None, None),
         page(None, None, None, Some(0)),
@@ -424,7 +534,8 @@ fn starts_in_place() {
         assert_eq!(board.start_in_place(given), started.map(|_| ()), "{given:02X?}");
         assert_eq!(board, started.unwrap_or(factory), "{given:02X?}");
     }
-    assert_eq!(Board::start(&pages[2]).unwrap().settings, Settings { baud: 921600, accelerometer: 4, gyroscope: 7 });
+    assert_eq!(Board::start(&pages[2]).unwrap().settings, Settings { baud: 921600, accelerometer: 4, gyroscope: 5 });
+    assert_eq!(Board::start(&pages[3]).unwrap().settings, Settings { baud: 921600, accelerometer: 4, gyroscope: 3 });
     assert_eq!(dirty_boards()[0].start_in_place(&unsound), Err(Refusal::Page));
     assert_eq!(dirty_boards()[0].start_in_place(&BLANK[1..]), Err(Refusal::PageLength));
 }
@@ -434,13 +545,13 @@ fn starts_in_place() {
 #[test]
 fn restart_in_place() {
     let (mut board, mut page) = fresh();
-    let set = command(function::USE, &[(code::GYROSCOPE, 7)]);
+    let set = command(function::USE, &[(code::GYROSCOPE, 5)]);
     let save = command(function::SAVE, &[(code::GYROSCOPE, 0)]);
     assert_eq!(replies(&mut board, &[set, save].concat(), &mut page).len(), 2);
     let ping = hex("A5A5010202004F25");
     assert!(replies(&mut board, &ping[..7], &mut page).is_empty());
     board.start_in_place(&page).unwrap();
-    assert_eq!((board.first.held, board.settings.gyroscope), (0, 7));
+    assert_eq!((board.first.held, board.settings.gyroscope), (0, 5));
     assert!(replies(&mut board, &ping[7..], &mut page).is_empty());
     assert_eq!(replies(&mut board, &ping, &mut page), [hex("A5A5010480020200D3CF")]);
 }
@@ -451,12 +562,14 @@ fn refused_feeds() {
     let (sound, _) = fresh();
     let mut unsound = sound;
     unsound.second.held = 261;
-    let mut not_allowed = sound;
-    not_allowed.settings.gyroscope = 8;
+    let with_range = |gyroscope| Board { settings: Settings { gyroscope, ..sound.settings }, ..sound };
     let cases = [
         (2, unsound, 165, 63, Refusal::Port),
         (0, unsound, 165, 63, Refusal::Unsound),
-        (1, not_allowed, 165, 63, Refusal::Unsound),
+        (1, with_range(6), 165, 63, Refusal::Unsound),
+        (0, with_range(7), 166, 64, Refusal::Unsound),
+        (1, with_range(8), 165, 63, Refusal::Unsound),
+        (0, with_range(5), 166, 64, Refusal::Page),
         (0, sound, 16, 63, Refusal::Room),
         (0, sound, 165, 63, Refusal::Room),
         (0, sound, 166, 63, Refusal::PageLength),

@@ -1,11 +1,11 @@
 -- Demand 1: any feed of any board, and lists of feeds from any sound board.
-use mathlib.Core.Bool.{Bool, true, false, _||_, not}
+use mathlib.Core.Bool.{Bool, true, false, _&&_, _||_, not}
 use mathlib.Core.List.{List, [], _∷_, _++_}
 use mathlib.Core.Path.{_≡_, refl, sym, ap, subst, _∙_}
 use Prim.Native.Nat.{ℕ, zero, suc, _+_, _-_, _≤_, _<_}
 use native.Mathlib.Omega.{arith}
 use native.Mathlib.Decide.{decLt}
-use lib.Dec.{eqb, ltb}
+use lib.Dec.{eqb, leb, ltb}
 use lib.ListN.{length, take, drop, length-append, length-take, length-drop}
 use lib.Seq.{length-take-le}
 use borrow.Author.Tests.{lt-ltb, le-ltb, ltb-false, eq-eqb, ne-eqb}
@@ -19,18 +19,20 @@ use Rattle.message.specs.Front.{front, mostUndecided}
 use Rattle.message.specs.Whole.{wholeNumber, refuse}
 use Rattle.message.proofs.Framed.{cutting-harmless}
 use Rattle.message.proofs.RoundTrips.{written-is-read}
+use Rattle.page.specs.Settings.{someOf, gyroscopeRanges, usable}
 use Rattle.page.specs.Page.{pageSize}
 use Rattle.page.specs.Sound.{sound, pageNumber}
-use Rattle.page.proofs.Pages.{sound-passes}
+use Rattle.page.proofs.Pages.{factory-usable, sound-passes}
+use Rattle.page.proofs.Settings.{five-ranges}
 use Rattle.command.specs.declared.settings.Settings.{Settings}
 use Rattle.command.specs.Outcome.{Received, receivedOf}
 use Rattle.command.specs.Handle.{messageOutcome}
-use Rattle.command.specs.Answer.{pageAccess, settingsFrom, replyRoom, answering}
-use Rattle.command.specs.Effects.{settingsAllowed}
+use Rattle.command.specs.Answer.{loadedFrom, pageAccess, settingsFrom, replyRoom, answering}
+use Rattle.command.specs.Effects.{settingsUsable}
 use Rattle.command.specs.Theorems.{replyTo}
 use Rattle.command.specs.Puts.{Put, putsOn, isEmpty, messagePuts}
-use Rattle.command.proofs.Keeps.{factory-allowed}
-use Rattle.command.proofs.Pages.{loaded-stored, reply-whole, answer-keeps}
+use Rattle.command.proofs.Keeps.{starts-usable}
+use Rattle.command.proofs.Pages.{loads-usable, reply-whole, answer-keeps}
 use Rattle.command.proofs.Separate.{longest-reply}
 use Rattle.message.proofs.Writes.{message-length}
 use Rattle.board.specs.Handling.{Kept}
@@ -42,6 +44,7 @@ use Rattle.board.specs.Port.{portRoom, heldBytes, portHolding, portOf, w
 use Rattle.board.specs.Start.{factorySettings, freshBoard, startOn, startOf}
 use Rattle.board.specs.Feed.{Feeding, PortStep, unsound, feedNumber, refusedFeeding, leftOf, stepOn, stepOf, feedOn, acceptOn, feedOf}
 use Rattle.board.specs.Runs.{callsFrom}
+use Rattle.board.specs.Older.{RangeSound}
 use Rattle.board.specs.AnyBoard.{isSound, otherPort, goodLength, FirstNumber, FirstNumbers, FeedsKeep, StartsKeep, runNumber, RunsStaySound}
 use Rattle.board.proofs.Follows.{holding}
 use Rattle.board.proofs.Reckons.{page-sound}
@@ -56,14 +59,14 @@ not-not false e = refl
 pub record SoundParts (first second : ℕ) (w : Settings) : Type 0 where
   pub first-few : first ≤ portRoom
   pub second-few : second ≤ portRoom
-  pub allowed-settings : settingsAllowed w ≡ true
+  pub usable-settings : settingsUsable w ≡ true
 
 parts : (first second : ℕ) (w : Settings) → unsound first second w ≡ false → SoundParts first second w
 unfolding unsound
 parts first second w e =
-    let o = or-neither (ltb portRoom first || ltb portRoom second) (not (settingsAllowed w)) e in
+    let o = or-neither (ltb portRoom first || ltb portRoom second) (not (settingsUsable w)) e in
     let q = or-neither (ltb portRoom first) (ltb portRoom second) (o .0) in
-    record { first-few = ltb-false portRoom first (q .0); second-few = ltb-false portRoom second (q .1); allowed-settings = is-true (settingsAllowed w) (o .1) }
+    record { first-few = ltb-false portRoom first (q .0); second-few = ltb-false portRoom second (q .1); usable-settings = is-true (settingsUsable w) (o .1) }
   where
     is-true : (t : Bool) → not t ≡ false → t ≡ true
     is-true true e = refl
@@ -71,7 +74,7 @@ parts first second w e =
 
 joined : (first second : ℕ) (w : Settings) → SoundParts first second w → not (unsound first second w) ≡ true
 unfolding unsound
-joined first second w p = rw (le-ltb portRoom first (p .first-few), le-ltb portRoom second (p .second-few), p .allowed-settings)
+joined first second w p = rw (le-ltb portRoom first (p .first-few), le-ltb portRoom second (p .second-few), p .usable-settings)
 
 -- ---- a step
 
@@ -113,7 +116,7 @@ module _ (port : ℕ) (held : List ℕ) (w : Settings) (chunk room page : List �
     written : after ≡ putsOn page (puts before good)
 
   record StepKeeps (s : PortStep) : Type 0 where
-    settings-allowed : settingsAllowed (s .settings) ≡ true
+    settings-usable : settingsUsable (s .settings) ≡ true
     page-kept-sound : sound (s .page) ≡ true
     unsaved : s .saved ≡ false → s .page ≡ page
     saved : s .saved ≡ true → StepSaved (s .page)
@@ -127,18 +130,18 @@ module _ (port : ℕ) (held : List ℕ) (w : Settings) (chunk room page : List �
   marked-some [] saved m e = differ (sym e ∙ m)
   marked-some (p ∷ ps) saved m e = omega arith
 
-  step-keeps : sound page ≡ true → settingsAllowed w ≡ true → replyRoom ≤ length room → StepKeeps (stepOf port held w chunk room page)
+  step-keeps : sound page ≡ true → settingsUsable w ≡ true → replyRoom ≤ length room → StepKeeps (stepOf port held w chunk room page)
   unfolding stepOf
   step-keeps h a large = go (seek front (held ++ chunk)) refl
     where
       go : (q : Sought) → seek front (held ++ chunk) ≡ q → StepKeeps (stepOn port q held w chunk room page)
-      go (Starved k) f = record { settings-allowed = a; page-kept-sound = h; unsaved = λ e. refl; saved = λ e. differ (sym e) }
+      go (Starved k) f = record { settings-usable = a; page-kept-sound = h; unsaved = λ e. refl; saved = λ e. differ (sym e) }
       go (Found k n good) f =
           let m : Received = receivedOf good (drop k (held ++ chunk)) in
           let t = answer-keeps port m w room page h a in
           let saved : Bool = answering port m w room page .answer .saved in
           record {
-            settings-allowed = t .settings-allowed;
+            settings-usable = t .settings-usable;
             page-kept-sound = t .page-sound;
             unsaved = λ e. t .page-after large ∙ ap (putsOn page) (unmarked-none (puts k good) saved (t .mark large) e);
             saved = λ e.
@@ -249,11 +252,11 @@ passed port b room page e =
 held-few : (p : Port) → p .held ≤ portRoom → length (heldBytes p) ≤ portRoom
 held-few p h = omega (arith, h, length-take (p .held) (p .bytes))
 
-with-sound : (port : ℕ) (b : Board) (bs : List ℕ) (w : Settings) → SoundParts (b .first .held) (b .second .held) (b .settings) → length bs ≤ portRoom → settingsAllowed w ≡ true
+with-sound : (port : ℕ) (b : Board) (bs : List ℕ) (w : Settings) → SoundParts (b .first .held) (b .second .held) (b .settings) → length bs ≤ portRoom → settingsUsable w ≡ true
     → isSound (withPort port b (portHolding bs) w) ≡ true
 unfolding portHolding
-with-sound zero b bs w p l a = joined (length bs) (b .second .held) w (record { first-few = l; second-few = p .second-few; allowed-settings = a })
-with-sound (suc q) b bs w p l a = joined (b .first .held) (length bs) w (record { first-few = p .first-few; second-few = l; allowed-settings = a })
+with-sound zero b bs w p l a = joined (length bs) (b .second .held) w (record { first-few = l; second-few = p .second-few; usable-settings = a })
+with-sound (suc q) b bs w p l a = joined (b .first .held) (length bs) w (record { first-few = p .first-few; second-few = l; usable-settings = a })
 
 port-few : (port : ℕ) (b : Board) → SoundParts (b .first .held) (b .second .held) (b .settings) → length (heldBytes (portOf port b)) ≤ portRoom
 port-few zero b p = held-few (b .first) (p .first-few)
@@ -320,7 +323,7 @@ module _ (port : ℕ) (b : Board) (chunk room page : List ℕ) where
   accepted-keeps p =
       let s = parts (b .first .held) (b .second .held) (b .settings) (p .sound-board) in
       let h : sound page ≡ true = page-sound page (p .passing-page) in
-      let k = step-keeps port (heldBytes (portOf port b)) (b .settings) chunk room page h (s .allowed-settings) (p .large-room) in
+      let k = step-keeps port (heldBytes (portOf port b)) (b .settings) chunk room page h (s .usable-settings) (p .large-room) in
       let t = step-tells port (heldBytes (portOf port b)) (b .settings) chunk room page (p .large-room) in
       let few = step-few port (heldBytes (portOf port b)) (b .settings) chunk room page (port-few port b s) in
       let n = step-number port (heldBytes (portOf port b)) (b .settings) chunk room page in
@@ -330,7 +333,7 @@ module _ (port : ℕ) (b : Board) (chunk room page : List ℕ) where
         other-port = λ l. with-other port b (portHolding (this .held)) (this .settings);
         saved = k .saved;
         unsaved = k .unsaved;
-        board-sound = λ e. with-sound port b (this .held) (this .settings) s few (k .settings-allowed);
+        board-sound = λ e. with-sound port b (this .held) (this .settings) s few (k .settings-usable);
         page-stays = λ e. sound-passes (this .page) (k .page-kept-sound);
         reported = t .reported;
         all-taken = t .all-taken;
@@ -446,16 +449,20 @@ first-numbers = first-number
 
 -- ---- starting
 
-factory-sound : settingsAllowed factorySettings ≡ true
-unfolding settingsAllowed
-factory-sound = rw (factory-allowed Baud, factory-allowed Accelerometer, factory-allowed Gyroscope)
+factory-sound : settingsUsable factorySettings ≡ true
+unfolding settingsUsable
+factory-sound = rw (factory-usable Baud, factory-usable Accelerometer, factory-usable Gyroscope)
 
-loaded-sound : (page : List ℕ) → sound page ≡ true → settingsAllowed (settingsFrom page) ≡ true
-unfolding settingsAllowed settingsFrom
-loaded-sound page h = rw (loaded-stored page Baud h .value-allowed, loaded-stored page Accelerometer h .value-allowed, loaded-stored page Gyroscope h .value-allowed)
+pub range-sound : RangeSound
+unfolding unsound settingsUsable usable
+range-sound range = twice (someOf (eqb range) gyroscopeRanges) ∙ sym (five-ranges range (leb 1 range && leb range 5) refl)
+  where
+    twice : (b : Bool) → not (not b) ≡ b
+    twice true = refl
+    twice false = refl
 
-fresh-sound : (w : Settings) → settingsAllowed w ≡ true → isSound (freshBoard w) ≡ true
-fresh-sound w a = joined 0 0 w (record { first-few = omega arith; second-few = omega arith; allowed-settings = a })
+fresh-sound : (w : Settings) → settingsUsable w ≡ true → isSound (freshBoard w) ≡ true
+fresh-sound w a = joined 0 0 w (record { first-few = omega arith; second-few = omega arith; usable-settings = a })
 
 start-with : (page : List ℕ) (n : ℕ) → pageNumber page ≡ n → startOf page ≡ startOn n page
 unfolding startOf
@@ -466,7 +473,7 @@ unfolding startOf
 started-sound page = go (pageNumber page) refl
   where
     go : (n : ℕ) → pageNumber page ≡ n → isSound (startOn n page .board) ≡ true
-    go zero e = fresh-sound (settingsFrom page) (loaded-sound page (page-sound page e))
+    go zero e = fresh-sound (settingsFrom page) (starts-usable (loadedFrom page) (loads-usable page))
     go (suc n) e = fresh-sound factorySettings factory-sound
 
 pub starts-keep : StartsKeep

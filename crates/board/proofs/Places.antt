@@ -20,7 +20,7 @@ use Rattle.command.specs.declared.settings.Settings.{Settings}
 use Rattle.command.specs.Outcome.{receivedOf}
 use Rattle.command.specs.declared.answer.Answer.{Answer}
 use Rattle.command.specs.Answer.{Answering, answering}
-use Rattle.command.specs.Effects.{settingsAllowed}
+use Rattle.command.specs.Effects.{settingsUsable}
 use Rattle.board.specs.declared.feeding.Stepped.{Stepped}
 use Rattle.board.specs.declared.board.Board.{Board}
 use Rattle.board.specs.declared.board.Fed.{Fed}
@@ -198,7 +198,7 @@ module _ (port : ℕ) (b : Board) (chunk room page : List ℕ) (n : ℕ) (ns : n
   sound z =
       let t : (ltb 1 port ≡ false) × _ = passes (ltb 1 port) 15 _ (sym ns ∙ z) in
       let u : (unsound (b .first .held) (b .second .held) (b .settings) ≡ false) × _ = passes (unsound (b .first .held) (b .second .held) (b .settings)) 16 _ (t .1) in
-      let o = or-neither (ltb 260 (b .first .held) || ltb 260 (b .second .held)) (not (settingsAllowed (b .settings))) (u .0) in
+      let o = or-neither (ltb 260 (b .first .held) || ltb 260 (b .second .held)) (not (settingsUsable (b .settings))) (u .0) in
       or-neither (ltb 260 (b .first .held)) (ltb 260 (b .second .held)) (o .0)
 
   pub first-sound : n ≡ 0 → b .first .held ≤ 260

@@ -17,23 +17,23 @@ use Rattle.history.proofs.Demand.{demand3, heldFew}
 use Rattle.message.specs.Front.{front, mostUndecided}
 use Rattle.message.proofs.Framed.{cutting-harmless}
 use Rattle.page.specs.declared.setting.Values.{Values}
-use Rattle.page.specs.Page.{allAllowed, writing, pageSize}
+use Rattle.page.specs.Page.{allStorable, writing, pageSize}
 use Rattle.page.specs.Lookup.{valuesIn}
 use Rattle.page.specs.Sound.{sound, pageNumber}
 use Rattle.page.proofs.Pages.{sound-is-writing, writing-sound, sound-passes}
-use Rattle.page.specs.declared.setting.Setting.the-variants.{Baud, Accelerometer, Gyroscope}
 use Rattle.command.specs.declared.settings.Settings.{Settings}
 use Rattle.command.specs.Answer.{settingsFrom, replyRoom}
-use Rattle.command.specs.Effects.{settingsAllowed}
+use Rattle.command.proofs.Keeps.{starts-usable}
+use Rattle.command.specs.Effects.{settingsUsable}
 use Rattle.board.specs.declared.board.Board.{Board}
 use Rattle.board.specs.declared.board.Started.{Started}
 use Rattle.board.specs.Port.{portRoom, heldBytes, portHolding, portOf}
 use Rattle.board.specs.Start.{freshBoard, startOf}
 use Rattle.board.specs.Feed.{Feeding, feedOf}
-use Rattle.board.specs.Handling.{Reckoned, Kept, settingsOf, reckonMessage, handleMessage, keptTests, StoredAs}
+use Rattle.board.specs.Handling.{Reckoned, Kept, loadedOf, settingsOf, reckonMessage, handleMessage, keptTests, StoredAs}
 use Rattle.board.specs.Runs.{Call, Calls, callsFrom, callsOn, feedFrom, feedsOf, reckonedOn, Told, AllTold}
 use Rattle.board.specs.Theorems.{AsReckoned, Demand3, OneMore, answersOf, historyOn, heldOn, PortAddsUp, SumLaw, ReportsScanned}
-use Rattle.board.proofs.Handles.{loaded-same, loaded-allowed, handles}
+use Rattle.board.proofs.Handles.{loaded-same, loaded-usable, handles}
 use Rattle.board.proofs.Steps.{stateOf, Padded, Same, step-same}
 
 -- ---- lists of feeds of the board are lists of feeds of the program that keeps only held bytes
@@ -74,15 +74,13 @@ followed-reckoned cs r p q f m few0 few1 =
 
 -- ---- the start
 
-settings-same : (v : Values) → allAllowed v ≡ true → settingsFrom (writing v) ≡ settingsOf v
-unfolding settingsFrom
+settings-same : (v : Values) → allStorable v ≡ true → settingsFrom (writing v) ≡ settingsOf v
 settings-same v a = rw (← loaded-same v a)
 
-pub settings-allowed : (v : Values) → allAllowed v ≡ true → settingsAllowed (settingsOf v) ≡ true
-unfolding settingsAllowed
-settings-allowed v a = rw (loaded-allowed v a Baud, loaded-allowed v a Accelerometer, loaded-allowed v a Gyroscope)
+pub settings-usable : (v : Values) → allStorable v ≡ true → settingsUsable (settingsOf v) ≡ true
+settings-usable v a = starts-usable (loadedOf v) (loaded-usable v a)
 
-pub started : (v : Values) → allAllowed v ≡ true → startOf (writing v) ≡ record { number = 0; board = freshBoard (settingsOf v) }
+pub started : (v : Values) → allStorable v ≡ true → startOf (writing v) ≡ record { number = 0; board = freshBoard (settingsOf v) }
 unfolding startOf
 started v a = rw (sound-passes (writing v) (writing-sound v a)) (ap (λ (w : Settings). record { number = 0; board = freshBoard w }) (settings-same v a))
 
@@ -92,7 +90,7 @@ fresh-padded w = record { first = refl; second = refl }
 
 -- ---- the whole
 
-module _ (v : Values) (cs : List Call) (a : allAllowed v ≡ true) where
+module _ (v : Values) (cs : List Call) (a : allStorable v ≡ true) where
   abbrev w : Settings
   w = settingsOf v
 
@@ -106,7 +104,7 @@ module _ (v : Values) (cs : List Call) (a : allAllowed v ≡ true) where
   program = programFrom (stateOf (freshBoard w) (writing v)) (feedsOf cs)
 
   stored : StoredAs (record { settings = w; page = v }) (record { settings = w; page = writing v })
-  stored = record { settings = refl; page = refl; settings-allowed = settings-allowed v a; values-allowed = a }
+  stored = record { settings = refl; page = refl; settings-usable = settings-usable v a; values-storable = a }
 
   matched : Matches StoredAs reckoned program
   unfolding heldProgram
@@ -146,7 +144,7 @@ reports-scanned v cs port a h =
     let b : startOf (writing v) .board ≡ freshBoard (settingsOf v) = ap (λ (s : Started). s .board) (started v a) in
     rw b (added v cs a port h)
 
-as-reckoned : (v : Values) (cs : List Call) → allAllowed v ≡ true → AsReckoned cs (callsOn v cs) (reckonedOn v cs)
+as-reckoned : (v : Values) (cs : List Call) → allStorable v ≡ true → AsReckoned cs (callsOn v cs) (reckonedOn v cs)
 as-reckoned v cs a =
     let b : startOf (writing v) .board ≡ freshBoard (settingsOf v) = ap (λ (s : Started). s .board) (started v a) in
     rw b (whole v cs a)
@@ -167,10 +165,10 @@ board-demand3 page cs e =
     let i = sound-is-writing page (page-sound page e) in
     record {
       values = valuesIn page;
-      allowed-values = i .allowed-values;
+      storable-values = i .storable-values;
       written = i .written;
-      started = ap (λ (p : List ℕ). startOf p .number) (i .written) ∙ ap (λ (s : Started). s .number) (started (valuesIn page) (i .allowed-values));
-      reckoned = as-reckoned (valuesIn page) cs (i .allowed-values);
+      started = ap (λ (p : List ℕ). startOf p .number) (i .written) ∙ ap (λ (s : Started). s .number) (started (valuesIn page) (i .storable-values));
+      reckoned = as-reckoned (valuesIn page) cs (i .storable-values);
     }
 
 pub one-more : OneMore

@@ -27,7 +27,7 @@ use Rattle.board.specs.Histories.{actsFrom, actsOn, acceptedFrom, accept
 use Rattle.board.specs.Restarts.{callsIn, feedActs, startAnew, reckonedActs, acceptedIn, HistoryDemand3}
 use Rattle.board.proofs.Feedings.{feeds-keep}
 use Rattle.board.proofs.Handles.{handles}
-use Rattle.board.proofs.Reckons.{Followed, followed-reckoned, settings-allowed, started, fresh-padded, page-sound}
+use Rattle.board.proofs.Reckons.{Followed, followed-reckoned, settings-usable, started, fresh-padded, page-sound}
 use Rattle.board.proofs.Steps.{stateOf, Padded, Same, step-same}
 
 -- ---- starting anew
@@ -55,10 +55,10 @@ starts-alike : (x : Reckoned) (y : Kept) → StoredAs x y → StoredAs (startAne
 starts-alike x y r =
     record {
       settings =
-          sym (ap (λ (p : List ℕ). startOf p .board .settings) (r .page) ∙ ap (λ (s : Started). s .board .settings) (started (x .page) (r .values-allowed)));
+          sym (ap (λ (p : List ℕ). startOf p .board .settings) (r .page) ∙ ap (λ (s : Started). s .board .settings) (started (x .page) (r .values-storable)));
       page = r .page;
-      settings-allowed = settings-allowed (x .page) (r .values-allowed);
-      values-allowed = r .values-allowed;
+      settings-usable = settings-usable (x .page) (r .values-storable);
+      values-storable = r .values-storable;
     }
 
 -- ---- histories of the board are histories of that program
@@ -118,7 +118,7 @@ history-demand3 page acts e =
     let i = sound-is-writing page (page-sound page e) in
     let x : Reckoned = record { settings = settingsOf v; page = v } in
     let y : Kept = record { settings = settingsOf v; page = page } in
-    let r : StoredAs x y = record { settings = refl; page = i .written; settings-allowed = settings-allowed v (i .allowed-values); values-allowed = i .allowed-values } in
+    let r : StoredAs x y = record { settings = refl; page = i .written; settings-usable = settings-usable v (i .storable-values); values-storable = i .storable-values } in
     let p : Run (State (List ℕ) Kept) = programFrom (startedOn [] startKept y) (feedActs acts) in
     let few : (port : ℕ) → length (keptPort port (p .final)) ≤ portRoom =
     λ port. restarts-held-few front mostUndecided replyRoom StoredAs reckonMessage keptTests handleMessage startAnew startKept cutting-harmless handles starts-alike port x y (feedActs acts) r in
@@ -127,7 +127,7 @@ history-demand3 page acts e =
     let f = from-start y acts (actsOn page acts) (acceptedOn page acts) (followed acts (startOf page .board) page (start-padded page)) in
     record {
       values = v;
-      allowed-values = i .allowed-values;
+      storable-values = i .storable-values;
       written = i .written;
       reckoned = followed-reckoned (callsIn acts) (actsOn page acts) p (reckonedActs v acts) (f .calls-told) m (few 0) (few 1);
       started = start-done (actsOn page acts .page) (acts-passing (startOf page .board) page acts e);

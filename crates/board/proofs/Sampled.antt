@@ -4,8 +4,8 @@ use Rattle.stream.specs.Seek.{seek}
 use Rattle.message.specs.Message.{messageOf, sumsRight}
 use Rattle.message.specs.Front.{front}
 use Rattle.message.specs.Fields.{fieldsOf}
-use Rattle.page.specs.Settings.{settingOf, allowed, pageAllowed}
-use Rattle.page.specs.Page.{allAllowed, writing, factoryPage}
+use Rattle.page.specs.Settings.{settingOf, usable, storable}
+use Rattle.page.specs.Page.{allStorable, writing, factoryPage}
 use Rattle.page.specs.Lookup.{entryFrom, entryOf, partOf, bodyOf, heldUnder, valuesIn}
 use Rattle.page.specs.Sound.{sound, pageNumber, pageWriting}
 use Rattle.command.specs.Command.{commandOf, subjectOf}
@@ -14,8 +14,8 @@ use Rattle.command.specs.Numbers.{numberError}
 use Rattle.command.specs.Numbered.{carried}
 use Rattle.command.specs.Outcome.{receivedOf, fieldOutcome, fieldsOutcome}
 use Rattle.command.specs.Handle.{commandOutcome, numberedOutcome, messageOutcome}
-use Rattle.command.specs.Effects.{settingsAllowed}
-use Rattle.command.specs.Answer.{loadedFrom, settingsFrom, answering}
+use Rattle.command.specs.Effects.{startSettings, settingsUsable}
+use Rattle.command.specs.Answer.{lookedUp, loadedFrom, answering}
 use Rattle.board.specs.Port.{portHolding}
 use Rattle.board.specs.Start.{startOf}
 use Rattle.board.specs.Feed.{unsound, feedNumber, stepOf, feedOf}
@@ -23,11 +23,16 @@ use Rattle.board.specs.Runs.{callsFrom}
 use Rattle.board.specs.Samples.{SampleLines}
 use Rattle.board.specs.Histories.{actsFrom, acceptedFrom}
 use Rattle.board.specs.Examples.{ExampleLines}
+use Rattle.board.specs.Older.{OlderLines}
 
 pub sample-lines : SampleLines
-unfolding seek messageOf sumsRight front fieldsOf settingOf allowed pageAllowed allAllowed writing factoryPage entryFrom entryOf partOf bodyOf heldUnder valuesIn sound pageNumber pageWriting commandOf subjectOf fieldWrong fieldError commandError fieldOutcome fieldsOutcome commandOutcome messageOutcome receivedOf loadedFrom settingsFrom answering settingsAllowed portHolding startOf unsound feedNumber stepOf feedOf callsFrom
+unfolding seek messageOf sumsRight front fieldsOf settingOf usable storable allStorable writing factoryPage entryFrom entryOf partOf bodyOf heldUnder valuesIn sound pageNumber pageWriting commandOf subjectOf fieldWrong fieldError commandError fieldOutcome fieldsOutcome commandOutcome messageOutcome receivedOf lookedUp loadedFrom startSettings answering settingsUsable portHolding startOf unsound feedNumber stepOf feedOf callsFrom
 sample-lines = refl
 
 pub example-lines : ExampleLines
-unfolding seek messageOf sumsRight front fieldsOf settingOf allowed pageAllowed allAllowed writing factoryPage entryFrom entryOf partOf bodyOf heldUnder valuesIn sound pageNumber pageWriting commandOf subjectOf fieldWrong fieldError commandError numberError fieldOutcome fieldsOutcome commandOutcome numberedOutcome messageOutcome receivedOf loadedFrom settingsFrom answering settingsAllowed portHolding startOf unsound feedNumber stepOf feedOf carried actsFrom acceptedFrom
+unfolding seek messageOf sumsRight front fieldsOf settingOf usable storable allStorable writing factoryPage entryFrom entryOf partOf bodyOf heldUnder valuesIn sound pageNumber pageWriting commandOf subjectOf fieldWrong fieldError commandError numberError fieldOutcome fieldsOutcome commandOutcome numberedOutcome messageOutcome receivedOf lookedUp loadedFrom startSettings answering settingsUsable portHolding startOf unsound feedNumber stepOf feedOf carried actsFrom acceptedFrom
 example-lines = refl
+
+pub older-lines : OlderLines
+unfolding seek messageOf sumsRight front fieldsOf settingOf usable storable allStorable writing factoryPage entryFrom entryOf partOf bodyOf heldUnder valuesIn sound pageNumber pageWriting commandOf subjectOf fieldWrong fieldError commandError numberError fieldOutcome fieldsOutcome commandOutcome numberedOutcome messageOutcome receivedOf lookedUp loadedFrom startSettings answering settingsUsable portHolding startOf unsound feedNumber stepOf feedOf carried actsFrom acceptedFrom
+older-lines = record { lines = refl; numbers = refl }

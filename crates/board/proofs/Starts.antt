@@ -16,7 +16,7 @@ use Rattle.command.specs.declared.settings.Settings.{Settings}
 use Rattle.command.specs.declared.answer.Answer.{Answer}
 use Rattle.command.specs.Outcome.{receivedOf}
 use Rattle.command.specs.Answer.{settingsFrom, Answering, answering}
-use Rattle.command.specs.Effects.{settingsAllowed}
+use Rattle.command.specs.Effects.{settingsUsable}
 use Rattle.board.specs.declared.feeding.Stepped.{Stepped}
 use Rattle.board.specs.declared.port.Port.{Port}
 use Rattle.board.specs.Port.{freshPort}
@@ -77,7 +77,7 @@ module _ (port first second : ℕ) (w : Settings) (room page : List ℕ) where
       unfolding feedNumber unsound
       number-second h = rw (le-ltb 1 port p, le-ltb 260 first a, lt-ltb 260 second h)
 
-      module _ (b : second ≤ 260) (s : Bool) (ss : s ≡ settingsAllowed w) where
+      module _ (b : second ≤ 260) (s : Bool) (ss : s ≡ settingsUsable w) where
         pub number-settings : not s ≡ true → 17 ≡ feedNumber port first second w room page
         unfolding feedNumber unsound
         number-settings h = rw (le-ltb 1 port p, le-ltb 260 first a, le-ltb 260 second b, ← ss, h)

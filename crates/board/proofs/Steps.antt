@@ -20,7 +20,7 @@ use Rattle.command.specs.declared.settings.Settings.{Settings}
 use Rattle.command.specs.Outcome.{Received, receivedOf}
 use Rattle.command.specs.Answer.{Answering, answering, replyRoom}
 use Rattle.command.proofs.Pages.{answer-large}
-use Rattle.command.specs.Effects.{settingsAllowed}
+use Rattle.command.specs.Effects.{settingsUsable}
 use Rattle.command.specs.Numbered.{carried}
 use Rattle.board.specs.declared.port.Port.{Port}
 use Rattle.board.specs.declared.board.Board.{Board}
@@ -144,16 +144,16 @@ module _ (b : Board) (page : List ℕ) (c : Call) (k : Padded b) where
   on-tests false false false false false h =
       accepted b page c k (ltb-false (length (c .room)) replyRoom h) (seek front (heldBytes (portOf (c .port) b) ++ c .chunk)) refl
 
-  unsound-is : unsound (b .first .held) (b .second .held) (b .settings) ≡ ltb 260 (length (heldBytes (b .first))) || ltb 260 (length (heldBytes (b .second))) || not (settingsAllowed (b .settings))
+  unsound-is : unsound (b .first .held) (b .second .held) (b .settings) ≡ ltb 260 (length (heldBytes (b .first))) || ltb 260 (length (heldBytes (b .second))) || not (settingsUsable (b .settings))
   unfolding unsound
   unsound-is =
-      ap (λ (i : ℕ). ltb 260 i || ltb 260 (b .second .held) || not (settingsAllowed (b .settings))) (count-is (b .first) (k .first))
-      ∙ ap (λ (i : ℕ). ltb 260 (length (heldBytes (b .first))) || ltb 260 i || not (settingsAllowed (b .settings))) (count-is (b .second) (k .second))
+      ap (λ (i : ℕ). ltb 260 i || ltb 260 (b .second .held) || not (settingsUsable (b .settings))) (count-is (b .first) (k .first))
+      ∙ ap (λ (i : ℕ). ltb 260 (length (heldBytes (b .first))) || ltb 260 i || not (settingsUsable (b .settings))) (count-is (b .second) (k .second))
 
   -- A feed of the board gives what that program's step gives.
   pub step-same : Same b c (feedOf (c .port) b (c .chunk) (c .room) page) (heldStep front handleMessage 260 replyRoom keptTests (stateOf b page) (feedFrom c))
   unfolding feedOf feedNumber pageNumber heldStep keptTests
   step-same =
       rw (unsound-is, port-held (c .port) b page)
-      (on-tests (ltb 1 (c .port)) (ltb 260 (length (heldBytes (b .first))) || ltb 260 (length (heldBytes (b .second))) || not (settingsAllowed (b .settings)))
+      (on-tests (ltb 1 (c .port)) (ltb 260 (length (heldBytes (b .first))) || ltb 260 (length (heldBytes (b .second))) || not (settingsUsable (b .settings)))
       (ltb (length (c .room)) replyRoom) (not (eqb (length page) pageSize)) (not (sound page)) refl)

@@ -33,14 +33,14 @@ pub record Line : Type 0 where
 -- ---- messages and replies
 
 -- A message that is taken whole and answered: without the mark of a save, or with it.
-abbrev plain : ℕ → List ℕ → List ℕ → Act Sent
+abbrev pub plain : ℕ → List ℕ → List ℕ → Act Sent
 plain port m reply = call (record { port = port; chunk = m; out = done (length m) 0 reply })
 
-abbrev marks : ℕ → List ℕ → List ℕ → Act Sent
+abbrev pub marks : ℕ → List ℕ → List ℕ → Act Sent
 marks port m reply = call (record { port = port; chunk = m; out = saves (length m) reply })
 
 -- Type 7C: a number, then a command's type and its fields.
-abbrev numbered : ℕ → ℕ → List ℕ → List ℕ
+abbrev pub numbered : ℕ → ℕ → List ℕ → List ℕ
 numbered n kind fields = messageOf 0x7C (wordBytes n ++ (kind ∷ fields))
 
 -- With a wrong last byte.
@@ -51,17 +51,17 @@ spoiled m = take (length m - 1) m ++ (0x00 ∷ [])
 abbrev ping : List ℕ
 ping = 0x02 ∷ 0x00 ∷ []
 
-abbrev sets : ℕ → ℕ → List ℕ
+abbrev pub sets : ℕ → ℕ → List ℕ
 sets code value = code ∷ 0x02 ∷ 0x01 ∷ value ∷ []
 
-abbrev does : ℕ → ℕ → List ℕ
+abbrev pub does : ℕ → ℕ → List ℕ
 does function code = code ∷ 0x01 ∷ function ∷ []
 
 -- A row of a reply; and one with the value of one byte that function 2 adds.
-abbrev row : ℕ → ℕ → List ℕ
+abbrev pub row : ℕ → ℕ → List ℕ
 row echo error = 0x80 ∷ 0x02 ∷ echo ∷ error ∷ []
 
-abbrev rowWith : ℕ → ℕ → List ℕ
+abbrev pub rowWith : ℕ → ℕ → List ℕ
 rowWith code value = row code 0 ++ (code ∷ 0x01 ∷ value ∷ [])
 
 -- ---- pages and settings
@@ -74,7 +74,7 @@ numberPage n = filled (0x01 ∷ 0x70 ∷ 0x04 ∷ 0x04 ∷ wordBytes n)
 abbrev keptPage : List ℕ
 keptPage = filled (0x02 ∷ 0x07 ∷ 0x07 ∷ 0x01 ∷ 0x70 ∷ 0x08 ∷ 0x04 ∷ 0x04 ∷ 0x00 ∷ 0x00 ∷ 0x00 ∷ 0x07 ∷ [])
 
-abbrev working : ℕ → ℕ → Settings
+abbrev pub working : ℕ → ℕ → Settings
 working accelerometer gyroscope = record { baud = 115200; accelerometer = accelerometer; gyroscope = gyroscope }
 
 -- ---- the table
@@ -82,7 +82,7 @@ working accelerometer gyroscope = record { baud = 115200; accelerometer = accele
 abbrev pub examples : List Line
 examples =
     -- Several fields, each on what those before it left: the range 05 is used and saved, 01 is used, and loading gives 05 again. An error
-    -- in the middle (a range that is not allowed, a Ping in type 02) does not stop the later ones.
+    -- in the middle (a range that no board has, a Ping in type 02) does not stop the later ones.
     record {
       page = blankPage;
       acts =
@@ -206,7 +206,7 @@ lineFor page acts =
       left = r .page;
     }
 
-abbrev linesFor : List Line → List Line
+abbrev pub linesFor : List Line → List Line
 linesFor [] = []
 linesFor (l ∷ ls) = lineFor (l .page) (l .acts) ∷ linesFor ls
 

@@ -13,7 +13,7 @@ use Rattle.page.specs.Sound.{pageNumber}
 use Rattle.command.specs.declared.settings.Settings.{Settings}
 use Rattle.command.specs.Outcome.{receivedOf}
 use Rattle.command.specs.Answer.{replyRoom, Answering, answering}
-use Rattle.command.specs.Effects.{settingsAllowed}
+use Rattle.command.specs.Effects.{settingsUsable}
 use Rattle.board.specs.declared.board.Board.{Board}
 use Rattle.board.specs.declared.board.Fed.{Fed}
 use Rattle.board.specs.declared.feeding.Stepped.{Stepped}
@@ -27,9 +27,9 @@ pub record Feeding : Type 0 where
 
 -- ---- refusals
 
--- A port holds over 260, or a working value is not allowed.
+-- A port holds over 260, or a working value is not usable.
 unfoldable pub unsound : ℕ → ℕ → Settings → Bool
-unsound first second w = ltb portRoom first || ltb portRoom second || not (settingsAllowed w)
+unsound first second w = ltb portRoom first || ltb portRoom second || not (settingsUsable w)
 
 -- 16: port not 0 or 1; 17: board unsound; 18: room under 166 bytes; 19, 20: the page.
 unfoldable pub feedNumber : ℕ → ℕ → ℕ → Settings → List ℕ → List ℕ → ℕ

@@ -12,7 +12,7 @@ use Rattle.history.specs.Reckoning.{Ledger}
 use Rattle.history.specs.Restarts.{Act, call, restart, reckonedHistory}
 use Rattle.message.specs.Front.{front}
 use Rattle.page.specs.declared.setting.Values.{Values}
-use Rattle.page.specs.Page.{allAllowed, writing}
+use Rattle.page.specs.Page.{allStorable, writing}
 use Rattle.page.specs.Sound.{pageNumber}
 use Rattle.command.specs.Numbered.{carried}
 use Rattle.command.specs.Outcome.{receivedOf}
@@ -50,12 +50,12 @@ abbrev pub acceptedIn : List Answer → List ℕ
 acceptedIn [] = []
 acceptedIn (a ∷ answers) = acceptedWith (a .saved) (carriedBy (a .reports)) ++ acceptedIn answers
 
--- The page is the writing of allowed values; from a start on it all goes as reckoned from those values; and the numbers accepted are
+-- The page is the writing of storable values; from a start on it all goes as reckoned from those values; and the numbers accepted are
 -- those of the messages that the reckoning reports with the mark of a save. A start at the end is done; and so is every restart, since
 -- each stands at the end of the history before it (`OneActMore`).
 pub record HistoryFromPage (page : List ℕ) (acts : List (Act Call)) : Type 0 where
   pub values : Values
-  pub allowed-values : allAllowed values ≡ true
+  pub storable-values : allStorable values ≡ true
   pub written : page ≡ writing values
   pub reckoned : AsReckoned (callsIn acts) (actsOn page acts) (reckonedActs values acts)
   pub started : startOf (actsOn page acts .page) .number ≡ 0

@@ -18,7 +18,7 @@ use crate::port::Port;
 use command::Answer;
 use command::Settings;
 use command::answer_over;
-use command::settings_allowed;
+use command::settings_usable;
 use message::seek_held;
 use stream::Sought;
 
@@ -35,7 +35,7 @@ fn feed_number(port: u8, first: usize, second: usize, w: Settings, room: &[u8], 
     if Port::ROOM < second {
         return 17;
     }
-    if !settings_allowed(w) {
+    if !settings_usable(w) {
         return 17;
     }
     if room.len() < Port::REPLY {

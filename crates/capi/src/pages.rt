@@ -89,7 +89,7 @@ fn values_from(flat: FlatValues) -> Values
     }
 }
 
-// Writes the page anew so that it keeps these values: 0. 19: not 64 bytes; 20: a value that is there is not allowed. Nothing
+// Writes the page anew so that it keeps these values: 0. 19: not 64 bytes; 20: a value that is there is not storable. Nothing
 // is written then.
 #[no_mangle]
 pub extern "C" fn ketphiroj_write_page(values: FlatValues, page: &mut [u8]) -> u8

@@ -14,7 +14,7 @@ use Rattle.page.specs.declared.setting.Coded.{Coded}
 use Rattle.page.specs.declared.setting.Coded.the-variants.{Setting as Known, Nothing}
 use Rattle.page.specs.declared.setting.Stored.{Stored}
 use Rattle.page.specs.declared.setting.Stored.the-variants.{Absent, Value}
-use Rattle.page.specs.Settings.{settingOf, codeOf, valueSize, allowed}
+use Rattle.page.specs.Settings.{settingOf, codeOf, valueSize, readable}
 use Rattle.message.specs.Fields.{fieldsOf}
 use Rattle.message.specs.Message.{lengthOf}
 use Rattle.message.specs.Whole.{wholeNumber}
@@ -88,7 +88,7 @@ module _ (s : Setting) (bs : List ℕ) (n : ℕ) (z : n ≡ valueSize s) where
       front-size h =
           rw (le-leb (valueSize s + 2) (length bs) (omega arith), eq-eqb (getD bs 0 0) (codeOf s) (f ∙ c), ne-eqb (getD bs 1 0) (valueSize s) (λ e. h (o ∙ e ∙ sym z)))
 
-      pub front-value : w ≡ n → (x : ℕ) → x ≡ number (take 4 (take (n + 2 - 2) (drop 2 bs))) → (a : Bool) → a ≡ allowed s x → a ≡ startsWithValue s bs
+      pub front-value : w ≡ n → (x : ℕ) → x ≡ number (take 4 (take (n + 2 - 2) (drop 2 bs))) → (a : Bool) → a ≡ readable s x → a ≡ startsWithValue s bs
       unfolding startsWithValue
       front-value g x t a p =
           let m : n + 2 - 2 ≡ valueSize s = omega arith in
@@ -153,13 +153,13 @@ module _ (kind : ℕ) (bs : List ℕ) where
       row-two h = rw (le-leb 4 (length bs) l, f, ne-eqb (getD bs 1 0) 0x02 h)
 
       module _ (g : getD bs 1 0 ≡ 0x02) where
-        pub row-error : 5 < getD bs 3 0 → 0 ≡ rowSize kind bs
+        pub row-error : 6 < getD bs 3 0 → 0 ≡ rowSize kind bs
         unfolding rowSize
-        row-error h = rw (le-leb 4 (length bs) l, f, g, lt-leb (getD bs 3 0) 5 h)
+        row-error h = rw (le-leb 4 (length bs) l, f, g, lt-leb (getD bs 3 0) 6 h)
 
-        pub row-there : getD bs 3 0 ≤ 5 → (m : ℕ) → m ≡ valueFieldSize kind (getD bs 2 0) (getD bs 3 0) (take (length bs - 4) (drop 4 bs)) → 4 + m ≡ rowSize kind bs
+        pub row-there : getD bs 3 0 ≤ 6 → (m : ℕ) → m ≡ valueFieldSize kind (getD bs 2 0) (getD bs 3 0) (take (length bs - 4) (drop 4 bs)) → 4 + m ≡ rowSize kind bs
         unfolding rowSize
-        row-there h m e = rw (le-leb 4 (length bs) l, f, g, le-leb (getD bs 3 0) 5 h, e, rest-part bs 4)
+        row-there h m e = rw (le-leb 4 (length bs) l, f, g, le-leb (getD bs 3 0) 6 h, e, rest-part bs 4)
 
 -- ---- a message
 

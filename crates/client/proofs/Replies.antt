@@ -15,10 +15,11 @@ use Rattle.page.specs.declared.setting.Coded.{Coded}
 use Rattle.page.specs.declared.setting.Coded.the-variants.{Setting as Known, Nothing}
 use Rattle.page.specs.declared.setting.Stored.{Stored}
 use Rattle.page.specs.declared.setting.Stored.the-variants.{Absent, Value}
-use Rattle.page.specs.Settings.{settingOf, codeOf, valueSize, allowed, valueBytes, lastNumber}
+use Rattle.page.specs.Settings.{settingOf, codeOf, valueSize, usable, readable, valueBytes, lastNumber}
+use Rattle.page.proofs.Pages.{usable-readable, value-back}
 use Rattle.message.specs.Fields.{Field, fieldsPast, fieldsOf}
-use Rattle.message.specs.Message.{messageOf}
-use Rattle.message.specs.Whole.{refuse}
+use Rattle.message.specs.Message.{messageOf, sumsRight}
+use Rattle.message.specs.Whole.{refuse, wholeNumber}
 use Rattle.message.proofs.FieldRows.{past-all}
 use Rattle.message.proofs.RoundTrips.{written-is-read}
 use Rattle.message.proofs.Writes.{message-length}
@@ -33,14 +34,14 @@ use Rattle.command.specs.Outcome.{State, Received, needsNumber, fieldOutcome, f
 use Rattle.command.specs.Handle.{fieldsIn, refusedOutcome, commandOn, commandOutcome, spent, numberedOn, numberedOutcome, messageOutcome}
 use Rattle.command.specs.Answer.{loadedFrom, numberOn, pageAccess}
 use Rattle.command.proofs.Accepts.{error-most}
-use Rattle.command.proofs.Keeps.{value-allowed}
+use Rattle.command.proofs.Keeps.{value-usable}
 use Rattle.command.proofs.Pages.{Sound, field-goes, page-changes, number-small}
 use Rattle.command.proofs.Separate.{longest-reply}
 use Rattle.command.proofs.Tests.{command-passed, fields-some}
 use Rattle.stream.proofs.Bools.{differ}
 use Rattle.client.specs.Reader.{carriesValues, severalRows, Row, valueIn, valueIf, valueAfter, rowsOf, rowsIn, rowRead, rowsWrong, rowsRead, replyRead}
-use Rattle.client.specs.Replies.{reported, plainRow, fieldRows, commandRowsOn, commandRows, numberedRowsOn, messageRows, RepliesRead}
-use Rattle.client.proofs.Tests.{value-back, value-length}
+use Rattle.client.specs.Replies.{reported, plainRow, fieldRows, commandRowsOn, commandRows, numberedRowsOn, messageRows, RepliesRead, OlderRead}
+use Rattle.client.proofs.Tests.{value-length}
 use Rattle.client.proofs.Commands.{setting-back, subject-about}
 use Rattle.client.proofs.Rows.{rowField}
 
@@ -78,7 +79,7 @@ next-row kind echo error g e = go (carriesValues kind && eqb error 0) (settingOf
     go false c = refl
 
 -- One row more in front, without a value.
-plain-told : (kind echo error : ℕ) → error ≤ 5 → (bs : List ℕ) (rs : List Row) → Told kind bs rs
+plain-told : (kind echo error : ℕ) → error ≤ 6 → (bs : List ℕ) (rs : List Row) → Told kind bs rs
     → Told kind (0x80 ∷ 0x02 ∷ echo ∷ error ∷ bs) (record { echo = echo; error = error; value = Absent } ∷ rs)
 unfolding rowsOf
 plain-told kind echo error h bs rs t =
@@ -86,11 +87,11 @@ plain-told kind echo error h bs rs t =
   where
     go : (fs : List Field) → Starts fs → rowsOf kind fs ≡ some rs
         → rowsOf kind (rowField echo error ∷ fs) ≡ some (record { echo = echo; error = error; value = Absent } ∷ rs)
-    go [] s e = let q : rs ≡ [] = cc in rw (le-leb error 5 h, q)
-    go (g ∷ fs) s e = rw (le-leb error 5 h, next-row kind echo error g s, e)
+    go [] s e = let q : rs ≡ [] = cc in rw (le-leb error 6 h, q)
+    go (g ∷ fs) s e = rw (le-leb error 6 h, next-row kind echo error g s, e)
 
 -- One row more, with a setting's value.
-value-told : (kind : ℕ) → carriesValues kind ≡ true → (s : Setting) (x : ℕ) → allowed s x ≡ true → (bs : List ℕ) (rs : List Row) → Told kind bs rs
+value-told : (kind : ℕ) → carriesValues kind ≡ true → (s : Setting) (x : ℕ) → usable s x ≡ true → (bs : List ℕ) (rs : List Row) → Told kind bs rs
     → Told kind (0x80 ∷ 0x02 ∷ codeOf s ∷ 0 ∷ (valueField s x ++ bs)) (record { echo = codeOf s; error = 0; value = Value x } ∷ rs)
 unfolding rowsOf valueAfter
 value-told kind v s x a bs rs t =
@@ -103,7 +104,7 @@ value-told kind v s x a bs rs t =
       fields = rowField (codeOf s) 0 ∷ record { code = codeOf s; size = valueSize s; content = valueBytes s x } ∷ t .fields;
       are = rw (p, c);
       start = refl;
-      rows = rw (v, setting-back s, e, z, value-back s x a, a, t .rows);
+      rows = rw (v, setting-back s, e, z, value-back s x a, usable-readable s x a, t .rows);
     }
 
 -- ---- one field
@@ -112,7 +113,7 @@ value-told kind v s x a bs rs t =
 module _ (kind : ℕ) (guarded : Bool) (x : State (List ℕ)) (ok : Sound x) (c : Command) (carries : c .kind ≡ 0x02 → carriesValues kind ≡ true)
     (bs : List ℕ) (rs : List Row) (t : Told kind bs rs) where
   abbrev error : ℕ
-  error = fieldError (needsNumber pageAccess guarded (x .page)) c
+  error = fieldError (needsNumber pageAccess guarded (x .page)) (loadedFrom (x .page)) c
 
   -- The rows of a field, and those behind them.
   FieldTold : Type 0
@@ -121,7 +122,7 @@ module _ (kind : ℕ) (guarded : Bool) (x : State (List ℕ)) (ok : Sound x) (c 
   -- A field that reports nothing has the plain row.
   silent : effectOf (needsNumber pageAccess guarded (x .page)) (loadedFrom (x .page)) (x .settings) c .report ≡ [] → reported error c (x .settings) ≡ Absent → FieldTold
   unfolding FieldTold fieldOutcome effectOf
-  silent r v = rw (r, v) (plain-told kind (c .code) error (error-most (needsNumber pageAccess guarded (x .page)) c) bs rs t)
+  silent r v = rw (r, v) (plain-told kind (c .code) error (error-most (needsNumber pageAccess guarded (x .page)) (loadedFrom (x .page)) c) bs rs t)
 
   about-told : (s : Setting) → subjectOf (c .kind) (c .code) ≡ About s → error ≡ 0 → (f : ℕ) → c .function ≡ f → FieldTold
   unfolding FieldTold fieldOutcome effectOf
@@ -129,7 +130,7 @@ module _ (kind : ℕ) (guarded : Bool) (x : State (List ℕ)) (ok : Sound x) (c 
   about-told s e n (suc zero) f = silent (rw (n, e, f)) (rw (n, e, f))
   about-told s e n (suc (suc zero)) f =
       let k = subject-about (c .kind) (c .code) s e in
-      rw (n, e, f, k .1) (value-told kind (carries (k .0)) s (workingValue (x .settings) s) (value-allowed (x .settings) s (ok .settings)) bs rs t)
+      rw (n, e, f, k .1) (value-told kind (carries (k .0)) s (workingValue (x .settings) s) (value-usable (x .settings) s (ok .settings)) bs rs t)
   about-told s e n (suc (suc (suc zero))) f = silent (rw (n, e, f)) (rw (n, e, f))
   about-told s e n (suc (suc (suc (suc zero)))) f = silent (rw (n, e, f)) (rw (n, e, f))
   about-told s e n (suc (suc (suc (suc (suc g))))) f =
@@ -206,26 +207,26 @@ told-read kind p rs k t e = rw (t .are, t .rows, e)
 record Read (kind : ℕ) (bs : List ℕ) (rs : List Row) : Type 0 where
   pub read : (k : ℕ) → rowsRead kind (rowsIn kind (fieldsOf bs)) k ≡ rowRead kind rs k
 
-plain-read : (kind echo error : ℕ) → error ≤ 5 → Read kind (0x80 ∷ 0x02 ∷ echo ∷ error ∷ []) (plainRow echo error)
+plain-read : (kind echo error : ℕ) → error ≤ 6 → Read kind (0x80 ∷ 0x02 ∷ echo ∷ error ∷ []) (plainRow echo error)
 plain-read kind echo error h =
     record { read = λ k. told-read kind (0x80 ∷ 0x02 ∷ echo ∷ error ∷ []) (plainRow echo error) k (plain-told kind echo error h [] [] (no-told kind)) refl }
 
 -- The errors of a command as a whole, and of a number, are of the table.
-command-errors : (kind : ℕ) (payload : List ℕ) → commandError kind payload ≤ 5
+command-errors : (kind : ℕ) (payload : List ℕ) → commandError kind payload ≤ 6
 unfolding commandError
 command-errors kind payload = go (not (isKind kind)) (eqb (length payload) 0) (fieldsRefused (fieldsOf payload))
   where
-    go : (b c d : Bool) → refuse b 2 (refuse c 3 (refuse d 4 0)) ≤ 5
+    go : (b c d : Bool) → refuse b 2 (refuse c 3 (refuse d 4 0)) ≤ 6
     go true c d = omega arith
     go false true d = omega arith
     go false false true = omega arith
     go false false false = omega arith
 
-number-errors : (last : Stored) (payload : List ℕ) → numberError last payload ≤ 5
+number-errors : (last : Stored) (payload : List ℕ) → numberError last payload ≤ 6
 unfolding numberError
 number-errors last payload = go (ltb (length payload) 5) (not (isFresh last (numberOf payload)))
   where
-    go : (b c : Bool) → refuse b 4 (refuse c 5 0) ≤ 5
+    go : (b c : Bool) → refuse b 4 (refuse c 5 0) ≤ 6
     go true c = omega arith
     go false true = omega arith
     go false false = omega arith
@@ -286,3 +287,9 @@ replies-read port m w page k s a =
     let p : List ℕ = messageOutcome pageAccess port x m .rows in
     let l : length p ≤ 255 = omega (arith, message-length (m .kind) p, longest-reply .most (List ℕ) pageAccess port x m) in
     message-read (m .kind) p k l ∙ rows-read port m x (record { settings = a; page = s }) .read k
+
+-- ---- replies of older boards, computed
+
+pub older-read : OlderRead
+unfolding settingOf readable messageOf sumsRight fieldsOf wholeNumber valueAfter rowsOf replyRead
+older-read = record { none = refl; five = refl; six = refl; seven = refl; eight = refl; error-six = refl; error-seven = refl }

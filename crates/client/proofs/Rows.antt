@@ -15,10 +15,11 @@ use Rattle.page.specs.declared.setting.Coded.{Coded}
 use Rattle.page.specs.declared.setting.Coded.the-variants.{Setting as Known, Nothing}
 use Rattle.page.specs.declared.setting.Stored.{Stored}
 use Rattle.page.specs.declared.setting.Stored.the-variants.{Absent, Value}
-use Rattle.page.specs.Settings.{settingOf, codeOf, valueSize, allowed}
+use Rattle.page.specs.Settings.{settingOf, codeOf, valueSize, readable}
 use Rattle.message.specs.Fields.{Field, consField, fieldsPast, fieldsOf}
 use Rattle.message.proofs.FieldRows.{past-there, past-short}
-use Rattle.client.specs.Reader.{carriesValues, Row, isError, isRow, valueOn, valueIn, valueIf, valueAfter, consRow, rowsOf, rowsIn}
+use Rattle.page.specs.Loading.{valueOn}
+use Rattle.client.specs.Reader.{carriesValues, Row, isError, isRow, valueIn, valueIf, valueAfter, consRow, rowsOf, rowsIn}
 use Rattle.client.specs.Rows.{startsWithValue, codedSize, sizeIf, valueFieldSize, startsWithRow, rowSize, rowIn}
 use Rattle.stream.proofs.Bools.{differ, and-both}
 use Rattle.client.proofs.Tests.{size-some, size-small}
@@ -67,11 +68,11 @@ value-field s x n ys h = go (eqb n (valueSize s)) refl
   where
     go : (t : Bool) → eqb n (valueSize s) ≡ t
         → valueIn (Known s) (record { code = x; size = n; content = take n ys })
-        ≡ valueOn (leb (valueSize s + 2) (length (x ∷ n ∷ ys)) && eqb x (codeOf s) && eqb n (valueSize s) && allowed s (number (take (valueSize s) ys))) (number (take n ys))
+        ≡ valueOn (leb (valueSize s + 2) (length (x ∷ n ∷ ys)) && eqb x (codeOf s) && eqb n (valueSize s) && readable s (number (take (valueSize s) ys))) (number (take n ys))
     go true p =
         let e : n ≡ valueSize s = eqb-true n (valueSize s) p in
         rw (le-leb (valueSize s + 2) (length (x ∷ n ∷ ys)) (omega arith), ← e)
-    go false p = rw p (none-of (eqb x (codeOf s)) (leb (valueSize s + 2) (length (x ∷ n ∷ ys))) (allowed s (number (take n ys))) (allowed s (number (take (valueSize s) ys))))
+    go false p = rw p (none-of (eqb x (codeOf s)) (leb (valueSize s + 2) (length (x ∷ n ∷ ys))) (readable s (number (take n ys))) (readable s (number (take (valueSize s) ys))))
       where
         none-of : (a b c d : Bool) → valueOn (a && false && c) (number (take n ys)) ≡ valueOn (b && a && false && d) (number (take n ys))
         none-of true true c d = refl
@@ -92,7 +93,7 @@ data Adds (n : ℕ) (ys : List ℕ) (v : Stored) (m : ℕ) : Type 0 where
 there : (s : Setting) (x n : ℕ) (ys : List ℕ) → startsWithValue s (x ∷ n ∷ ys) ≡ true → (n ≡ valueSize s) × (n ≤ length ys)
 unfolding startsWithValue
 there s x n ys e =
-    let a = and-both (leb (valueSize s + 2) (length (x ∷ n ∷ ys)) && eqb x (codeOf s) && eqb n (valueSize s)) (allowed s (number (take (valueSize s) ys))) e in
+    let a = and-both (leb (valueSize s + 2) (length (x ∷ n ∷ ys)) && eqb x (codeOf s) && eqb n (valueSize s)) (readable s (number (take (valueSize s) ys))) e in
     let b = and-both (leb (valueSize s + 2) (length (x ∷ n ∷ ys)) && eqb x (codeOf s)) (eqb n (valueSize s)) (a .0) in
     let c = and-both (leb (valueSize s + 2) (length (x ∷ n ∷ ys))) (eqb x (codeOf s)) (b .0) in
     let z : n ≡ valueSize s = eqb-true n (valueSize s) (b .1) in

@@ -1,4 +1,4 @@
--- What the tests of the definitions tell: both of two, rows that are the same, and the bounds of allowed values.
+-- What the tests of the definitions tell: both of two, rows that are the same, and the bounds of values.
 use Prim.Native.Nat.{ℕ, _≤_, _<_}
 use native.Mathlib.Omega.{arith}
 use mathlib.Core.Path.{_≡_, refl, sym}
@@ -9,10 +9,8 @@ use lib.ListN.{length}
 use borrow.Author.Tests.{eqb-true, ltb-true}
 use Rattle.page.specs.declared.setting.Setting.{Setting}
 use Rattle.page.specs.declared.setting.Setting.the-variants.{Baud, Accelerometer, Gyroscope}
-use Rattle.page.specs.Settings.{someOf, allowedValues, allowed, valueBytes, valueSize}
+use Rattle.page.specs.Settings.{someOf, usableValues, usable, valueBytes, valueSize}
 use Rattle.stream.proofs.Bools.{differ, and-both}
-use Rattle.word.specs.Word.{number}
-use Rattle.word.proofs.Numbers.{word-back}
 
 -- ---- values
 
@@ -36,17 +34,11 @@ roof Baud = 4294967296
 roof Accelerometer = 256
 roof Gyroscope = 256
 
-pub allowed-below : (s : Setting) (x : ℕ) → allowed s x ≡ true → x < roof s
-unfolding allowed
-allowed-below Baud x e = found-below 4294967296 x (allowedValues Baud) refl e
-allowed-below Accelerometer x e = found-below 256 x (allowedValues Accelerometer) refl e
-allowed-below Gyroscope x e = found-below 256 x (allowedValues Gyroscope) refl e
-
--- The bytes of an allowed value are read back.
-pub value-back : (s : Setting) (x : ℕ) → allowed s x ≡ true → number (valueBytes s x) ≡ x
-value-back Baud x e = word-back x (allowed-below Baud x e)
-value-back Accelerometer x e = omega (arith, allowed-below Accelerometer x e)
-value-back Gyroscope x e = omega (arith, allowed-below Gyroscope x e)
+pub usable-below : (s : Setting) (x : ℕ) → usable s x ≡ true → x < roof s
+unfolding usable
+usable-below Baud x e = found-below 4294967296 x (usableValues Baud) refl e
+usable-below Accelerometer x e = found-below 256 x (usableValues Accelerometer) refl e
+usable-below Gyroscope x e = found-below 256 x (usableValues Gyroscope) refl e
 
 pub value-length : (s : Setting) (v : ℕ) → length (valueBytes s v) ≡ valueSize s
 value-length Baud v = refl

@@ -11,7 +11,7 @@ use borrow.Author.Tests.{ne-eqb, le-leb, lt-leb, leb-true, lt-ltb, le-ltb, not-f
 use Rattle.word.specs.Word.{wordBytes}
 use Rattle.page.specs.declared.setting.Setting.{Setting}
 use Rattle.page.specs.declared.setting.Setting.the-variants.{Baud, Accelerometer, Gyroscope}
-use Rattle.page.specs.Settings.{codeOf, allowed}
+use Rattle.page.specs.Settings.{codeOf, usable}
 use Rattle.message.specs.declared.write.Written.{Written}
 use Rattle.message.specs.Write.{Writing, refuseWriting, doneWriting, writingOf, putAt, plainWriting}
 use Rattle.command.specs.declared.command.Subject.{Subject}
@@ -27,7 +27,7 @@ use Rattle.client.proofs.Commands.{subject-ping, subject-about}
 -- ---- the tests of a setting's command
 
 module _ (s : Setting) (f v : ℕ) where
-  pub accepts-value : f ≡ 1 → (r : Bool) → r ≡ allowed s v → r ≡ acceptable (About s) f v
+  pub accepts-value : f ≡ 1 → (r : Bool) → r ≡ usable s v → r ≡ acceptable (About s) f v
   unfolding acceptable
   accepts-value e r a = rw e a
 
@@ -96,7 +96,7 @@ module _ (s : Setting) (f v n : ℕ) (room : List ℕ) where
         one : f ≡ 1
         unfolding acceptable
         one =
-            let b = and-both (isFunction f) (not (eqb f 1) || allowed s v) (sym t ∙ not-false a q) in
+            let b = and-both (isFunction f) (not (eqb f 1) || usable s v) (sym t ∙ not-false a q) in
             let l = and-both (leb 1 f) (leb f 5) (b .0) in
             omega (arith, leb-true 1 f (l .0))
 

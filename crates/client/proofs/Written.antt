@@ -12,18 +12,20 @@ use Rattle.word.specs.Word.{word, wordBytes}
 use Rattle.word.proofs.Numbers.{bytes-back}
 use Rattle.page.specs.declared.setting.Setting.{Setting}
 use Rattle.page.specs.declared.setting.Setting.the-variants.{Baud, Accelerometer, Gyroscope}
-use Rattle.page.specs.Settings.{settingOf, codeOf, allowed, valueBytes, valueSize}
+use Rattle.page.specs.declared.setting.Stored.{Stored}
+use Rattle.page.specs.Settings.{settingOf, codeOf, usable, valueBytes, valueSize}
 use Rattle.message.specs.Fields.{Field, fieldBytes, rowBytes, SizesRight}
 use Rattle.message.specs.Message.{messageOf, typeOf, lengthOf, payloadOf}
 use Rattle.message.proofs.FieldRows.{fields-fill}
 use Rattle.command.specs.declared.command.Subject.{Subject}
 use Rattle.command.specs.declared.command.Subject.the-variants.{Ping, Setting as About, Unknown}
 use Rattle.command.specs.Command.{commandOf, valueFor, subjectOf}
-use Rattle.command.specs.Errors.{fieldError, isFunction}
-use Rattle.command.proofs.Accepts.{Accepted, accepted}
+use Rattle.command.specs.Errors.{valueRight, notOnBoard, fieldError, isFunction}
+use Rattle.command.proofs.Accepts.{Accepted, accepted, sent-usable}
 use Rattle.stream.proofs.Bools.{differ, and-both}
 use Rattle.client.specs.Writer.{codeSubject, acceptable, commandMessage, Asked, askedField, askedRight}
-use Rattle.client.specs.Commands.{askedFields, allRight, lookedAt, allLookedAt, NoErrors, ObeyedIsWritten, OneObeyedIsWritten}
+use Rattle.client.specs.Commands.{askedFields, allRight}
+use Rattle.client.specs.Handled.{lookedAt, allLookedAt, NoErrors, ObeyedIsWritten, OneObeyedIsWritten}
 use Rattle.client.proofs.Tests.{value-length}
 use Rattle.client.proofs.Commands.{about-back, subject-ping, subject-about}
 use Rattle.client.proofs.Writings.{kind-back}
@@ -70,8 +72,8 @@ unfolding acceptable subjectOf
 ping-is kind f k e = record { asked = record { code = 0x02; function = 0; value = 0 }; right = rw k; written = rw (k, e) }
 
 module _ (s : Setting) (kind : ℕ) (f : Field) (k : kind ≡ 0x02) (c : f .code ≡ codeOf s) where
-  -- Function 1, with the bytes of an allowed value.
-  used-is : (v : ℕ) → allowed s v ≡ true → f .size ≡ 1 + valueSize s → f .content ≡ 1 ∷ valueBytes s v → FieldIs kind f
+  -- Function 1, with the bytes of a usable value.
+  used-is : (v : ℕ) → usable s v ≡ true → f .size ≡ 1 + valueSize s → f .content ≡ 1 ∷ valueBytes s v → FieldIs kind f
   unfolding acceptable
   used-is v a n e =
       record {
@@ -100,10 +102,10 @@ first-size false true true f e = differ (sym e)
 first-size false true false f e = differ (sym f)
 first-size false false t f e = differ (sym e)
 
-module _ (needs : Bool) (kind : ℕ) (f : Field) (sized : f .size ≡ length (f .content)) (bytes : (i : ℕ) → getD (f .content) i 0 < 256)
-    (free : fieldError needs (commandOf kind f) ≡ 0) where
-  passed : Accepted (commandOf kind f)
-  passed = accepted needs (commandOf kind f) free
+module _ (needs : Bool) (loaded : Setting → Stored) (kind : ℕ) (f : Field) (sized : f .size ≡ length (f .content)) (bytes : (i : ℕ) → getD (f .content) i 0 < 256)
+    (free : fieldError needs loaded (commandOf kind f) ≡ 0) where
+  passed : Accepted loaded (commandOf kind f)
+  passed = accepted needs loaded (commandOf kind f) free
 
   about-is : (s : Setting) → subjectOf kind (f .code) ≡ About s → (t : Bool) → eqb (getD (f .content) 0 0) 1 ≡ t → FieldIs kind f
   unfolding commandOf
@@ -113,7 +115,9 @@ module _ (needs : Bool) (kind : ℕ) (f : Field) (sized : f .size ≡ length (f 
       let z : eqb (f .size) (1 + valueSize s) || (eqb (f .size) 1 && not (eqb (getD (f .content) 0 0) 1)) ≡ true = rw e at (passed .field .size) in
       let x = first-size (eqb (f .size) (1 + valueSize s)) (eqb (f .size) 1) (eqb (getD (f .content) 0 0) 1) o z in
       let n : f .size ≡ 1 + valueSize s = eqb-true (f .size) (1 + valueSize s) x in
-      let h : allowed s (valueFor s (commandOf kind f)) ≡ true = rw (e, o) at (passed .field .value) in
+      let value : valueRight (About s) (commandOf kind f) ≡ true = subst (λ (b : Subject). valueRight b (commandOf kind f) ≡ true) e (passed .field .value) in
+      let on : notOnBoard (About s) loaded (commandOf kind f) ≡ false = subst (λ (b : Subject). notOnBoard b loaded (commandOf kind f) ≡ false) e (passed .on-board) in
+      let h : usable s (valueFor s (commandOf kind f)) ≡ true = sent-usable loaded (commandOf kind f) s on value g in
       let v : ℕ = valueFor s (commandOf kind f) in
       used-is s kind f (k .0) (k .1) v h n (data-value s kind f bytes (sym sized ∙ n) ∙ ap (λ (g : ℕ). g ∷ valueBytes s v) g)
   about-is s e false o =
@@ -157,7 +161,7 @@ record FieldsAre (kind : ℕ) (fs : List Field) : Type 0 where
 fields-are : (needs : Bool) (kind : ℕ) (fs : List Field) → SizesRight fs → ((i : ℕ) → getD (rowBytes fs) i 0 < 256) → NoErrors needs kind fs → FieldsAre kind fs
 fields-are needs kind [] s b e = record { asked = []; right = refl; written = refl }
 fields-are needs kind (f ∷ fs) s b e =
-    let one = field-is needs kind f (s .0) (λ i. front-byte (fieldBytes f) (rowBytes fs) b (suc (suc i))) (e .0) (subjectOf kind (f .code)) refl in
+    let one = field-is needs (e .0 .0) kind f (s .0) (λ i. front-byte (fieldBytes f) (rowBytes fs) b (suc (suc i))) (e .0 .1) (subjectOf kind (f .code)) refl in
     let more = fields-are needs kind fs (s .1) (behind-byte (fieldBytes f) (rowBytes fs) b) (e .1) in
     record { asked = one .asked ∷ more .asked; right = rw (one .right, more .right); written = rw (← one .written, more .written) }
 
@@ -181,11 +185,11 @@ known kind code Unknown f v e a = differ (sym a)
 
 pub one-obeyed-is-written : OneObeyedIsWritten
 unfolding commandMessage
-one-obeyed-is-written needs m f b e free =
+one-obeyed-is-written needs loaded m f b e free =
     let h = fields-fill (payloadOf m) (f ∷ []) e in
     let q : (i : ℕ) → getD (payloadOf m) i 0 < 256 = taken-byte (lengthOf m) (drop 4 m) (λ i. rw (getD-drop 4 m i 0) (b (4 + i))) in
     let p : (i : ℕ) → getD (rowBytes (f ∷ [])) i 0 < 256 = subst (λ (l : List ℕ). (i : ℕ) → getD l i 0 < 256) (sym (h .0)) q in
-    let one = field-is needs (typeOf m) f (h .1 .0) (λ i. front-byte (fieldBytes f) [] p (suc (suc i))) free (subjectOf (typeOf m) (f .code)) refl in
+    let one = field-is needs loaded (typeOf m) f (h .1 .0) (λ i. front-byte (fieldBytes f) [] p (suc (suc i))) free (subjectOf (typeOf m) (f .code)) refl in
     let a : Asked = one .asked in
     let k = known (typeOf m) (a .code) (subjectOf (typeOf m) (a .code)) (a .function) (a .value) refl (one .right) in
     let t = kind-back (typeOf m) (a .code) (subjectOf (typeOf m) (a .code)) (a .function) (a .value) refl (one .right) in

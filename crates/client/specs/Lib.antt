@@ -1,4 +1,5 @@
 pub mod Commands
+pub mod Handled
 pub mod Reader
 pub mod Replies
 pub mod Rows

@@ -1,4 +1,4 @@
--- Document 01, "Handling one message", and requests 02 and 03: the reply reader, which reads one row of a reply.
+-- Document 01, "Handling one message", and requests 02, 03 and 05: the reply reader, which reads one row of a reply.
 use mathlib.Core.Bool.{Bool, true, false, _&&_, _||_, not}
 use mathlib.Core.List.{List, [], _∷_}
 use mathlib.Core.Option.{Option, none, some}
@@ -10,7 +10,8 @@ use Rattle.page.specs.declared.setting.Coded.{Coded}
 use Rattle.page.specs.declared.setting.Coded.the-variants.{Setting as Known, Nothing}
 use Rattle.page.specs.declared.setting.Stored.{Stored}
 use Rattle.page.specs.declared.setting.Stored.the-variants.{Absent, Value}
-use Rattle.page.specs.Settings.{settingOf, codeOf, valueSize, allowed}
+use Rattle.page.specs.Settings.{settingOf, codeOf, valueSize, readable}
+use Rattle.page.specs.Loading.{valueOn}
 use Rattle.message.specs.Fields.{Field, fieldsOf}
 use Rattle.message.specs.Message.{typeOf, payloadOf}
 use Rattle.message.specs.Whole.{wholeNumber}
@@ -35,9 +36,9 @@ pub record Row : Type 0 where
   pub error : ℕ
   pub value : Stored
 
--- The errors of the table, 0 to 5.
+-- The errors of the table, 0 to 6.
 abbrev pub isError : ℕ → Bool
-isError e = leb e 5
+isError e = leb e 6
 
 abbrev pub echoIn : Field → ℕ
 echoIn f = getD (f .content) 0 0
@@ -49,14 +50,10 @@ errorIn f = getD (f .content) 1 0
 abbrev pub isRow : Field → Bool
 isRow f = eqb (f .code) 0x80 && eqb (f .size) 2 && isError (errorIn f)
 
-abbrev pub valueOn : Bool → ℕ → Stored
-valueOn true x = Value x
-valueOn false x = Absent
-
--- The value in a field whose code is that of a setting, with its value size and an allowed value.
+-- The value in a field whose code is that of a setting, with its value size and a readable value.
 abbrev pub valueIn : Coded → Field → Stored
 valueIn Nothing g = Absent
-valueIn (Known s) g = valueOn (eqb (g .code) (codeOf s) && eqb (g .size) (valueSize s) && allowed s (number (g .content))) (number (g .content))
+valueIn (Known s) g = valueOn (eqb (g .code) (codeOf s) && eqb (g .size) (valueSize s) && readable s (number (g .content))) (number (g .content))
 
 abbrev pub valueIf : Bool → Stored → Stored
 valueIf true v = v

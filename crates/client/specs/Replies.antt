@@ -1,5 +1,5 @@
--- What is proved of the reply reader, beyond the contract of the code. The statement names its proof, a term of that type in a file
--- of proofs/.
+-- What is proved of the reply reader, beyond the contract of the code. Each statement names its proof, a term of that type in a file of
+-- proofs/.
 use mathlib.Core.Path.{_≡_}
 use mathlib.Core.Bool.{Bool, true, false, not, cond}
 use mathlib.Core.List.{List, [], _∷_}
@@ -10,6 +10,7 @@ use Rattle.page.specs.declared.setting.Stored.{Stored}
 use Rattle.page.specs.declared.setting.Stored.the-variants.{Absent, Value}
 use Rattle.page.specs.Sound.{sound}
 use Rattle.message.specs.Fields.{fieldsOf}
+use Rattle.message.specs.Message.{messageOf}
 use Rattle.command.specs.declared.settings.Settings.{Settings}
 use Rattle.command.specs.declared.command.Command.{Command}
 use Rattle.command.specs.declared.command.Subject.{Subject}
@@ -17,12 +18,13 @@ use Rattle.command.specs.declared.command.Subject.the-variants.{Ping, Setting a
 use Rattle.command.specs.Command.{subjectOf, commandsOf}
 use Rattle.command.specs.Errors.{fieldError, commandError}
 use Rattle.command.specs.Numbers.{numberedKind, numberOf, innerKind, innerPayload, numberError}
-use Rattle.command.specs.Effects.{workingValue, settingsAllowed}
+use Rattle.command.specs.Effects.{workingValue, settingsUsable}
 use Rattle.command.specs.Outcome.{Access, State, Received, needsNumber, fieldOutcome}
 use Rattle.command.specs.Handle.{fieldsIn, spent}
 use Rattle.command.specs.Answer.{pageAccess}
 use Rattle.command.specs.Theorems.{replyTo}
-use Rattle.client.specs.Reader.{Row, rowRead, replyRead}
+use Rattle.client.specs.declared.reader.Reply.{Reply}
+use Rattle.client.specs.Reader.{Row, noReply, rowRead, replyRead}
 
 -- The value that a field's row carries: the working value, under an accepted function 2 of a setting.
 abbrev pub reportOn : Subject → ℕ → Settings → Stored
@@ -42,7 +44,7 @@ module _ {P : Type 0} (access : Access P) where
   abbrev pub fieldRows : Bool → State P → List Command → List Row
   fieldRows guarded x [] = []
   fieldRows guarded x (c ∷ cs) =
-      let error : ℕ = fieldError (needsNumber access guarded (x .page)) c in
+      let error : ℕ = fieldError (needsNumber access guarded (x .page)) (access .loaded (x .page)) c in
       record { echo = c .code; error = error; value = reported error c (x .settings) } ∷ fieldRows guarded (fieldOutcome access guarded x c .next) cs
 
   -- Those of a command: one where it is refused as a whole.
@@ -68,5 +70,28 @@ module _ {P : Type 0} (access : Access P) where
 -- Proof: Replies `replies-read`.
 abbrev pub RepliesRead : Type 0
 RepliesRead =
-    (port : ℕ) (m : Received) (w : Settings) (page : List ℕ) (k : ℕ) → sound page ≡ true → settingsAllowed w ≡ true
+    (port : ℕ) (m : Received) (w : Settings) (page : List ℕ) (k : ℕ) → sound page ≡ true → settingsUsable w ≡ true
     → replyRead (replyTo port m w page) k ≡ rowRead (m .kind) (messageRows pageAccess port (record { settings = w; page = page }) m) k
+
+-- ---- replies of older boards
+
+-- One row that reports a gyroscope's range; and one with an error.
+abbrev pub rangeReply : ℕ → List ℕ
+rangeReply x = messageOf 0x02 (0x80 ∷ 0x02 ∷ 0x08 ∷ 0x00 ∷ 0x08 ∷ 0x01 ∷ x ∷ [])
+
+abbrev pub errorReply : ℕ → List ℕ
+errorReply e = messageOf 0x02 (0x80 ∷ 0x02 ∷ 0x08 ∷ e ∷ [])
+
+abbrev pub oneRow : ℕ → Stored → Reply
+oneRow error value = record { number = 0; kind = 0x02; echo = 0x08; error = error; value = value }
+
+-- "The reply reader still takes them, from older boards": 06 and 07, and none beyond; and the errors of the table, up to 6. Proof: Replies
+-- `older-read`.
+pub record OlderRead : Type 0 where
+  pub none : replyRead (rangeReply 0x00) 0 ≡ noReply 23
+  pub five : replyRead (rangeReply 0x05) 0 ≡ oneRow 0 (Value 0x05)
+  pub six : replyRead (rangeReply 0x06) 0 ≡ oneRow 0 (Value 0x06)
+  pub seven : replyRead (rangeReply 0x07) 0 ≡ oneRow 0 (Value 0x07)
+  pub eight : replyRead (rangeReply 0x08) 0 ≡ noReply 23
+  pub error-six : replyRead (errorReply 6) 0 ≡ oneRow 6 Absent
+  pub error-seven : replyRead (errorReply 7) 0 ≡ noReply 23

@@ -8,14 +8,15 @@ use Rattle.word.specs.Word.{number}
 use Rattle.page.specs.declared.setting.Setting.{Setting}
 use Rattle.page.specs.declared.setting.Coded.{Coded}
 use Rattle.page.specs.declared.setting.Coded.the-variants.{Setting as Known, Nothing}
-use Rattle.page.specs.Settings.{settingOf, codeOf, valueSize, allowed}
-use Rattle.client.specs.Reader.{carriesValues, Row, isError, valueOn}
+use Rattle.page.specs.Settings.{settingOf, codeOf, valueSize, readable}
+use Rattle.page.specs.Loading.{valueOn}
+use Rattle.client.specs.Reader.{carriesValues, Row, isError}
 
--- Do the bytes start with a field of this setting, with its value size and an allowed value?
+-- Do the bytes start with a field of this setting, with its value size and a readable value?
 unfoldable pub startsWithValue : Setting → List ℕ → Bool
 startsWithValue s bs =
     leb (valueSize s + 2) (length bs) && eqb (getD bs 0 0) (codeOf s) && eqb (getD bs 1 0) (valueSize s)
-    && allowed s (number (take (valueSize s) (drop 2 bs)))
+    && readable s (number (take (valueSize s) (drop 2 bs)))
 
 abbrev pub sizeIf : Bool → ℕ → ℕ
 sizeIf true n = n

@@ -6,7 +6,7 @@ use Prim.Native.Nat.{ℕ, _+_}
 use lib.Dec.{eqb, ltb}
 use lib.ListN.{length}
 use Rattle.word.specs.Word.{wordBytes}
-use Rattle.page.specs.Settings.{settingOf, codeOf, allowed, valueBytes}
+use Rattle.page.specs.Settings.{settingOf, codeOf, usable, valueBytes}
 use Rattle.message.specs.Message.{messageOf}
 use Rattle.message.specs.Write.{Writing, refuseWriting, writingOf, putAt}
 use Rattle.command.specs.declared.command.Subject.{Subject}
@@ -29,10 +29,11 @@ kindFor Ping = 0x01
 kindFor (About s) = 0x02
 kindFor Unknown = 0
 
--- Is it a command that the board accepts? What is not written is not looked at.
+-- Is it a command that the board accepts? What is not written is not looked at. (The writer does not see the page: function 4 is 6 where
+-- that holds a value that is not on this board.)
 unfoldable pub acceptable : Subject → ℕ → ℕ → Bool
 acceptable Ping function value = true
-acceptable (About s) function value = isFunction function && (not (eqb function 1) || allowed s value)
+acceptable (About s) function value = isFunction function && (not (eqb function 1) || usable s value)
 acceptable Unknown function value = false
 
 -- Function 1 is written with its value, functions 2 to 5 without.

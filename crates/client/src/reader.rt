@@ -10,8 +10,8 @@ use message::check_message;
 use page::Coded;
 use page::Setting;
 use page::Stored;
-use page::allowed;
 use page::code_of;
+use page::readable;
 use page::setting_of;
 use page::value_size;
 use word::number_of;
@@ -112,7 +112,7 @@ fn row_size(kind: u8, bytes: &[u8]) -> usize
         return 0;
     }
     let error = bytes[3];
-    if 5 < error {
+    if 6 < error {
         return 0;
     }
     4 + value_field_size(kind, bytes[2], error, &bytes[4..])
@@ -149,7 +149,7 @@ fn carries_values(kind: u8) -> bool
     kind == 0x7C
 }
 
-// Whether `bytes` start with a field of this setting, with its value size and an allowed value.
+// Whether `bytes` start with a field of this setting, with its value size and a readable value.
 fn starts_with_value(setting: Setting, bytes: &[u8]) -> bool
     ensures { λ r. ⌜ r ≡ startsWithValue setting (now (bytes .entry)) ⌝ }
 {
@@ -163,7 +163,7 @@ fn starts_with_value(setting: Setting, bytes: &[u8]) -> bool
     if wide(bytes[1]) != n {
         return false;
     }
-    allowed(setting, number_of(&bytes[2..n + 2]))
+    readable(setting, number_of(&bytes[2..n + 2]))
 }
 
 fn wide(b: u8) -> usize

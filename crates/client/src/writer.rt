@@ -14,8 +14,8 @@ use message::Written;
 use message::write_bytes;
 use message::write_message;
 use page::Setting;
-use page::allowed;
 use page::code_of;
+use page::usable;
 
 // Writes the command of this code and function to the front of `room`: function 1 with the value, the functions 2 to 5
 // without, Ping without both. What is not written is not looked at.
@@ -102,7 +102,7 @@ fn accepts(setting: Setting, function: u8, value: u32) -> bool
     ensures { λ r. ⌜ r ≡ acceptable (Subject.Setting setting) function value ⌝ }
 {
     if function == 1 {
-        return allowed(setting, value);
+        return usable(setting, value);
     }
     if function < 1 {
         return false;

@@ -1,14 +1,20 @@
 -- What a command without error has passed, and what it is about.
-use mathlib.Core.Path.{_≡_}
+use mathlib.Core.Path.{_≡_, subst}
 use mathlib.Core.Bool.{Bool, true, false, _&&_, _||_, not}
 use Prim.Native.Nat.{_≤_}
 use native.Mathlib.Omega.{arith}
-use borrow.Author.Tests.{not-false}
+use lib.Dec.{eqb}
+use borrow.Author.Tests.{not-false, eq-eqb}
+use Rattle.page.specs.declared.setting.Setting.{Setting}
+use Rattle.page.specs.declared.setting.Stored.{Stored}
+use Rattle.page.specs.Settings.{usable, storable, notHere}
+use Rattle.page.specs.Page.{isThere}
 use Rattle.message.specs.Whole.{refuse}
 use Rattle.command.specs.declared.command.Command.{Command}
 use Rattle.command.specs.declared.command.Subject.{Subject}
-use Rattle.command.specs.Command.{subjectOf}
-use Rattle.command.specs.Errors.{isUnknown, sizeRight, functionRight, valueRight, alters, fieldWrong, fieldError}
+use Rattle.command.specs.declared.command.Subject.the-variants.{Setting as About}
+use Rattle.command.specs.Command.{valueFor, subjectOf}
+use Rattle.command.specs.Errors.{isUnknown, sizeRight, functionRight, valueRight, alters, fieldWrong, notOnBoard, fieldError}
 use Rattle.stream.proofs.Bools.{or-neither}
 use Rattle.command.proofs.Tests.{none-refused}
 
@@ -30,28 +36,45 @@ field-right subject c e =
     }
 
 -- The tests of a command without error.
-pub record Accepted (c : Command) : Type 0 where
+pub record Accepted (loaded : Setting → Stored) (c : Command) : Type 0 where
   pub known : isUnknown (subjectOf (c .kind) (c .code)) ≡ false
   pub field : FieldRight (subjectOf (c .kind) (c .code)) c
+  pub on-board : notOnBoard (subjectOf (c .kind) (c .code)) loaded c ≡ false
 
-pub accepted : (needs : Bool) (c : Command) → fieldError needs c ≡ 0 → Accepted c
+pub accepted : (needs : Bool) (loaded : Setting → Stored) (c : Command) → fieldError needs loaded c ≡ 0 → Accepted loaded c
 unfolding fieldError
-accepted needs c e =
+accepted needs loaded c e =
     let subject = subjectOf (c .kind) (c .code) in
     let three = none-refused (isUnknown subject) 2 _ e in
     let five = none-refused (needs && alters subject c) 4 _ (three .1) in
-    let four = none-refused (fieldWrong subject c) 3 0 (five .1) in
-    record { known = three .0; field = field-right subject c (four .0) }
+    let four = none-refused (fieldWrong subject c) 3 _ (five .1) in
+    let six = none-refused (notOnBoard subject loaded c) 5 0 (four .1) in
+    record { known = three .0; field = field-right subject c (four .0); on-board = six .0 }
 
--- ---- errors are 0 to 5
+-- An accepted command about a setting: under function 1 the value sent is usable, and under function 4 a value is loaded.
+module _ (loaded : Setting → Stored) (c : Command) (s : Setting) (on : notOnBoard (About s) loaded c ≡ false) where
+  tests : (eqb (c .function) 1 && notHere s (valueFor s c) ≡ false) × (eqb (c .function) 4 && not (isThere (loaded s)) ≡ false)
+  tests = or-neither (eqb (c .function) 1 && notHere s (valueFor s c)) (eqb (c .function) 4 && not (isThere (loaded s))) on
 
-pub error-most : (needs : Bool) (c : Command) → fieldError needs c ≤ 5
+  pub sent-usable : valueRight (About s) c ≡ true → c .function ≡ 1 → usable s (valueFor s c) ≡ true
+  sent-usable v f =
+      let one : eqb (c .function) 1 ≡ true = eq-eqb (c .function) 1 f in
+      let st : storable s (valueFor s c) ≡ true = subst (λ (b : Bool). not b || storable s (valueFor s c) ≡ true) one v in
+      let h : notHere s (valueFor s c) ≡ false = subst (λ (b : Bool). b && notHere s (valueFor s c) ≡ false) one (tests .0) in
+      not-false (usable s (valueFor s c)) (subst (λ (b : Bool). b && not (usable s (valueFor s c)) ≡ false) st h)
+
+  pub something-loaded : c .function ≡ 4 → isThere (loaded s) ≡ true
+  something-loaded f = not-false (isThere (loaded s)) (subst (λ (b : Bool). b && not (isThere (loaded s)) ≡ false) (eq-eqb (c .function) 4 f) (tests .1))
+
+-- ---- errors are 0 to 6
+
+pub error-most : (needs : Bool) (loaded : Setting → Stored) (c : Command) → fieldError needs loaded c ≤ 6
 unfolding fieldError
-error-most needs c =
-    go (isUnknown (subjectOf (c .kind) (c .code))) (needs && alters (subjectOf (c .kind) (c .code)) c) (fieldWrong (subjectOf (c .kind) (c .code)) c)
+error-most needs loaded c = let subject = subjectOf (c .kind) (c .code) in go (isUnknown subject) (needs && alters subject c) (fieldWrong subject c) (notOnBoard subject loaded c)
   where
-    go : (a n b : Bool) → refuse a 3 (refuse n 5 (refuse b 4 0)) ≤ 5
-    go true n b = omega arith
-    go false true b = omega arith
-    go false false true = omega arith
-    go false false false = omega arith
+    go : (a n b o : Bool) → refuse a 3 (refuse n 5 (refuse b 4 (refuse o 6 0))) ≤ 6
+    go true n b o = omega arith
+    go false true b o = omega arith
+    go false false true o = omega arith
+    go false false false true = omega arith
+    go false false false false = omega arith

@@ -1,7 +1,7 @@
 -- The answer to a command, case by case.
 use Prim.Native.Nat.{ℕ, zero, suc, _+_, _-_, _≤_, _<_}
 use native.Mathlib.Omega.{arith}
-use mathlib.Core.Path.{_≡_, refl, _∙_, ap}
+use mathlib.Core.Path.{_≡_, refl, sym, _∙_, ap, subst}
 use mathlib.Core.Bool.{Bool, true, false, _&&_, not, cond, or-true, or-false, and-true, and-false}
 use mathlib.Core.List.{List, [], _++_, append-assoc, append-nil}
 use lib.ListN.{length, getD, take, drop, take-append-drop}
@@ -10,7 +10,10 @@ use lib.Dec.{eqb}
 use borrow.Author.Tests.{lt-ltb, le-ltb, ne-eqb}
 use Rattle.page.specs.declared.setting.Setting.{Setting}
 use Rattle.page.specs.declared.setting.Setting.the-variants.{Baud, Accelerometer, Gyroscope}
+use Rattle.page.specs.declared.setting.Stored.{Stored}
+use Rattle.page.specs.declared.setting.Stored.the-variants.{Value}
 use Rattle.page.specs.Settings.{factoryValue}
+use Rattle.page.specs.Page.{isThere}
 use Rattle.message.specs.declared.write.Written.{Written}
 use Rattle.message.specs.Fields.{fieldsOf}
 use Rattle.message.specs.Message.{messageOf, typeOf, payloadOf}
@@ -24,13 +27,14 @@ use Rattle.command.specs.declared.command.Subject.the-variants.{Ping, Se
 use Rattle.command.specs.declared.settings.Settings.{Settings}
 use Rattle.command.specs.declared.command.Command.{Command}
 use Rattle.command.specs.Command.{valueFor, subjectOf, commandsOf}
-use Rattle.command.specs.Errors.{fieldError, commandError}
+use Rattle.command.specs.Errors.{notOnBoard, fieldError, commandError}
 use Rattle.command.specs.Numbers.{numberedKind, numberError}
 use Rattle.command.specs.Effects.{workingValue, withWorking, Fits, valueField, functionEffect, fieldEffect, effectOn, effectOf}
 use Rattle.command.specs.Outcome.{Outcome, receivedOf, idle, thenOutcome, replyRow, effectOutcome, rowOutcome, needsNumber, fieldOutcome, fieldsOutcome}
 use Rattle.command.specs.Handle.{fieldsIn, refusedOutcome, commandOn, commandOutcome, numberedOn, numberedOutcome, messageOutcome}
 use Rattle.command.specs.Place.{Placed, stateOf, placed, Opening, opening, numberOpening, openingOf, openedOn, openedOutcome}
 use Rattle.command.specs.Answer.{loadedFrom, savedOn, numberOn, pageAccess, replyRoom, Answering, answerWith, answering}
+use Rattle.command.proofs.Accepts.{accepted, something-loaded}
 use Rattle.command.proofs.Places.{put-length, put-behind, placed-then}
 use Rattle.command.proofs.Rows.{function-row, message-most}
 use Rattle.command.proofs.Spends.{inner-payload}
@@ -54,12 +58,12 @@ factory-fits Gyroscope x e = omega arith
 
 -- ---- the settings after a function
 
-module _ (f : ℕ) (loaded : Setting → ℕ) (w : Settings) (s : Setting) (x : ℕ) (r : Settings) where
+module _ (f : ℕ) (loaded : Setting → Stored) (w : Settings) (s : Setting) (x : ℕ) (r : Settings) where
   pub after-use : f ≡ 1 → r ≡ withWorking w s x → r ≡ functionEffect f loaded w s x .settings
   after-use e h = h ∙ rw e
 
-  pub after-load : f ≡ 4 → (y : ℕ) → y ≡ loaded s → r ≡ withWorking w s y → r ≡ functionEffect f loaded w s x .settings
-  after-load e y p h = h ∙ rw (p, e)
+  pub after-load : f ≡ 4 → (y : ℕ) → loaded s ≡ Value y → r ≡ withWorking w s y → r ≡ functionEffect f loaded w s x .settings
+  after-load e y p h = h ∙ rw (e, p)
 
   pub after-factory : 5 ≤ f → (y : ℕ) → y ≡ factoryValue s → r ≡ withWorking w s y → r ≡ functionEffect f loaded w s x .settings
   after-factory l y p h = h ∙ rw p (five f l)
@@ -72,7 +76,7 @@ module _ (f : ℕ) (loaded : Setting → ℕ) (w : Settings) (s : Setting) (x : 
       five (suc (suc (suc (suc zero)))) l = absurd (omega arith)
       five (suc (suc (suc (suc (suc f))))) l = refl
 
-pub after-none : (f : ℕ) (loaded : Setting → ℕ) (w : Settings) (s : Setting) (x : ℕ) → (f ≡ 1 → ⊥) → (f ≡ 4 → ⊥) → f < 5
+pub after-none : (f : ℕ) (loaded : Setting → Stored) (w : Settings) (s : Setting) (x : ℕ) → (f ≡ 1 → ⊥) → (f ≡ 4 → ⊥) → f < 5
     → w ≡ functionEffect f loaded w s x .settings
 after-none zero loaded w s x n m l = refl
 after-none (suc zero) loaded w s x n m l = absurd (n refl)
@@ -128,7 +132,7 @@ module _ (p : Progress) (room page : List ℕ) where
         only (suc (suc (suc (suc (suc f))))) n m = refl
 
   -- Any field.
-  module _ (guarded : Bool) (c : Command) (error : ℕ) (es : error ≡ fieldError (needsNumber pageAccess guarded page) c) (q : Progress) (mid : List ℕ)
+  module _ (guarded : Bool) (c : Command) (error : ℕ) (es : error ≡ fieldError (needsNumber pageAccess guarded page) (loadedFrom page) c) (q : Progress) (mid : List ℕ)
       (e : q ≡ record { end = p .end + 4; saved = p .saved; settings = p .settings }) (m : mid ≡ putAt (p .end) (replyRow (c .code) error []) room) where
     pub field-refused : (error ≡ 0 → ⊥) → record { done = q; room = mid; page = page } ≡ placed p (fieldOutcome pageAccess guarded (stateOf p page) c) room
     unfolding fieldOutcome effectOf
@@ -146,6 +150,12 @@ module _ (p : Progress) (room page : List ℕ) where
         omega arith
 
     module _ (zero-error : error ≡ 0) (subject : Subject) (ss : subject ≡ subjectOf (c .kind) (c .code)) where
+      -- Under function 4 a value is loaded.
+      pub field-loads : (s : Setting) → subject ≡ About s → c .function ≡ 4 → isThere (loadedFrom page s) ≡ true
+      field-loads s k f =
+          let a = accepted (needsNumber pageAccess guarded page) (loadedFrom page) c (sym es ∙ zero-error) in
+          something-loaded (loadedFrom page) c s (subst (λ (b : Subject). notOnBoard b (loadedFrom page) c ≡ false) (sym ss ∙ k) (a .on-board)) f
+
       pub field-ping : subject ≡ Ping → record { done = q; room = mid; page = page } ≡ placed p (fieldOutcome pageAccess guarded (stateOf p page) c) room
       unfolding fieldOutcome effectOf
       field-ping k = placed-row q mid (c .code) error e m ∙ rw (← es, zero-error, ← ss, k)

@@ -1,23 +1,25 @@
--- What requests 02 and 03 left of the handling of one field.
+-- What requests 02, 03 and 05 left of the handling of one field.
 use Prim.Native.Nat.{ℕ, _+_}
 use native.Mathlib.Omega.{arith}
-use mathlib.Core.Path.{_≡_, refl, sym, ap, _∙_}
+use mathlib.Core.Path.{_≡_, refl, sym, ap, subst, _∙_}
 use mathlib.Core.Bool.{Bool, true, false, _||_, not, cond}
 use mathlib.Core.List.{List, [], _∷_, append-nil}
 use mathlib.Core.Option.{some}
 use lib.Dec.{eqb}
 use lib.ListN.{length, getD}
-use borrow.Author.Tests.{eq-eqb, ne-eqb}
+use borrow.Author.Tests.{eq-eqb, ne-eqb, not-false}
 use Rattle.stream.proofs.Bools.{differ}
 use Rattle.message.specs.Fields.{Field, fieldBytes, fieldsOf}
+use Rattle.message.specs.Whole.{refuse}
 use Rattle.message.proofs.FieldRows.{fields-fill, fields-back}
 use Rattle.command.specs.Command.{commandOf, subjectOf}
-use Rattle.command.specs.Errors.{isUnknown, fieldError, fieldsRefused, isKind, commandError}
+use Rattle.command.specs.Errors.{isUnknown, fieldWrong, fieldError, fieldsRefused, isKind, commandError}
 use Rattle.command.specs.Numbers.{numberedKind}
 use Rattle.command.specs.Outcome.{Access, State, Received, idle, rowOutcome, fieldOutcome, fieldsOutcome}
 use Rattle.command.specs.Handle.{commandOutcome, messageOutcome}
-use Rattle.command.specs.Before.{errorBefore, outcomeBefore, OneAsBefore}
+use Rattle.command.specs.Before.{errorBefore, outcomeBefore, notOnBoardIn, OneAsBefore}
 use Rattle.command.proofs.Separate.{known-kind, then-idle}
+use Rattle.command.proofs.Tests.{none-refused}
 
 module _ {P : Type 0} (access : Access P) (x : State P) where
   -- ---- one field
@@ -47,16 +49,42 @@ module _ {P : Type 0} (access : Access P) (x : State P) where
       unfolding messageOutcome commandOutcome fieldsOutcome
       now-one = rw (g, known-kind kind k, passes, field-alone) (then-idle access (fieldOutcome access false x (commandOf kind f)))
 
-      same-error : errorBefore alone ≡ fieldError false (commandOf kind f)
-      unfolding errorBefore fieldError commandOf
-      same-error = rw (g, k, some-bytes, long, filled)
+      -- Where the value is on this board, the error is the same; where it is not and was accepted, it is 6.
+      error-now : fieldError false (access .loaded (x .page)) (commandOf kind f)
+          ≡ refuse (isUnknown (subjectOf kind (f .code))) 3 (refuse (fieldWrong (subjectOf kind (f .code)) (commandOf kind f)) 4 (refuse (notOnBoardIn access x alone) 6 0))
+      unfolding fieldError commandOf
+      error-now = refl
 
-      before-one : outcomeBefore access x alone ≡ fieldOutcome access false x (commandOf kind f)
+      error-then : errorBefore alone ≡ refuse (isUnknown (subjectOf kind (f .code))) 3 (refuse (fieldWrong (subjectOf kind (f .code)) (commandOf kind f)) 4 0)
+      unfolding errorBefore commandOf
+      error-then = rw (g, k, some-bytes, long, filled)
+
+      before-one : notOnBoardIn access x alone ≡ false → outcomeBefore access x alone ≡ fieldOutcome access false x (commandOf kind f)
       unfolding outcomeBefore fieldOutcome commandOf
-      before-one = rw same-error
+      before-one o =
+          let same : errorBefore alone ≡ fieldError false (access .loaded (x .page)) (commandOf kind f) = error-then ∙ sym (error-now ∙ rw o) in
+          rw same
 
-      both-right : messageOutcome access 1 x alone ≡ outcomeBefore access x alone
-      both-right = now-one ∙ sym before-one
+      -- Where there was an error, it is the same.
+      before-refused : (errorBefore alone ≡ 0 → ⊥) → outcomeBefore access x alone ≡ fieldOutcome access false x (commandOf kind f)
+      unfolding outcomeBefore fieldOutcome commandOf
+      before-refused n = rw (error-then ∙ sym (error-now ∙ same (isUnknown (subjectOf kind (f .code))) (fieldWrong (subjectOf kind (f .code)) (commandOf kind f)) (λ z. n (error-then ∙ z))))
+        where
+          same : (u w : Bool) → (refuse u 3 (refuse w 4 0) ≡ 0 → ⊥) → refuse u 3 (refuse w 4 (refuse (notOnBoardIn access x alone) 6 0)) ≡ refuse u 3 (refuse w 4 0)
+          same true w n = refl
+          same false true n = refl
+          same false false n = absurd (n refl)
+
+      both-right : notOnBoardIn access x alone ≡ false → messageOutcome access 1 x alone ≡ outcomeBefore access x alone
+      both-right o = now-one ∙ sym (before-one o)
+
+      six-now : notOnBoardIn access x alone ≡ true → errorBefore alone ≡ 0 → messageOutcome access 1 x alone ≡ rowOutcome (f .code) 6 (idle x)
+      unfolding fieldOutcome commandOf
+      six-now o z =
+          let three = none-refused (isUnknown (subjectOf kind (f .code))) 2 _ (sym error-then ∙ z) in
+          let four = none-refused (fieldWrong (subjectOf kind (f .code)) (commandOf kind f)) 3 0 (three .1) in
+          let six : fieldError false (access .loaded (x .page)) (commandOf kind f) ≡ 6 = error-now ∙ rw (three .0, four .0, o) in
+          now-one ∙ rw six
 
   -- ---- sums wrong, another type
 
@@ -79,19 +107,44 @@ module _ {P : Type 0} (access : Access P) (x : State P) where
 
   -- ---- any sums and type
 
-  one-field : (m : Received) → NotNumbered m → (f : Field) → fieldsOf (m .payload) ≡ some (f ∷ []) → messageOutcome access 1 x m ≡ outcomeBefore access x m
-  one-field m n f e = go (m .good) (isKind (m .kind)) refl refl
-    where
-      r : (fieldBytes f ≡ m .payload) × (f .size ≡ length (f .content))
-      r = let h = fields-fill (m .payload) (f ∷ []) e in (sym (append-nil (fieldBytes f)) ∙ h .0, h .1 .0)
+  module _ (m : Received) (n : NotNumbered m) (f : Field) (e : fieldsOf (m .payload) ≡ some (f ∷ [])) where
+    r : (fieldBytes f ≡ m .payload) × (f .size ≡ length (f .content))
+    r = let h = fields-fill (m .payload) (f ∷ []) e in (sym (append-nil (fieldBytes f)) ∙ h .0, h .1 .0)
 
-      go : (g k : Bool) → m .good ≡ g → isKind (m .kind) ≡ k → messageOutcome access 1 x m ≡ outcomeBefore access x m
-      go false k gs ks = damaged m gs
-      go true false gs ks = other m n gs ks
-      go true true gs ks =
-          let b = both-right (m .good) (m .kind) f (r .1) gs ks in
-          let q : alone (m .good) (m .kind) f (r .1) ≡ m = ap (λ (l : List ℕ). record { good = m .good; kind = m .kind; payload = l }) (r .0) in
-          ap (messageOutcome access 1 x) (sym q) ∙ b ∙ ap (outcomeBefore access x) q
+    q : alone (m .good) (m .kind) f (r .1) ≡ m
+    q = ap (λ (l : List ℕ). record { good = m .good; kind = m .kind; payload = l }) (r .0)
+
+    -- Any sums and type, from good ones.
+    from-good : ((gs : m .good ≡ true) (ks : isKind (m .kind) ≡ true)
+        → messageOutcome access 1 x (alone (m .good) (m .kind) f (r .1)) ≡ outcomeBefore access x (alone (m .good) (m .kind) f (r .1)))
+        → messageOutcome access 1 x m ≡ outcomeBefore access x m
+    from-good b = go (m .good) (isKind (m .kind)) refl refl
+      where
+        go : (g k : Bool) → m .good ≡ g → isKind (m .kind) ≡ k → messageOutcome access 1 x m ≡ outcomeBefore access x m
+        go false k gs ks = damaged m gs
+        go true false gs ks = other m n gs ks
+        go true true gs ks = ap (messageOutcome access 1 x) (sym q) ∙ b gs ks ∙ ap (outcomeBefore access x) q
+
+    one-field : notOnBoardIn access x m ≡ false → messageOutcome access 1 x m ≡ outcomeBefore access x m
+    one-field o = from-good (λ gs ks. both-right (m .good) (m .kind) f (r .1) gs ks (subst (λ (l : Received). notOnBoardIn access x l ≡ false) (sym q) o))
+
+    refused-before : (errorBefore m ≡ 0 → ⊥) → messageOutcome access 1 x m ≡ outcomeBefore access x m
+    refused-before e =
+        from-good (λ gs ks. now-one (m .good) (m .kind) f (r .1) gs ks ∙ sym (before-refused (m .good) (m .kind) f (r .1) gs ks (λ z. e (ap errorBefore (sym q) ∙ z))))
+
+    -- What was accepted was good, and of a known type.
+    passed : errorBefore m ≡ 0 → (m .good ≡ true) × (isKind (m .kind) ≡ true)
+    unfolding errorBefore
+    passed z =
+        let one = none-refused (not (m .good)) 0 _ z in
+        let two = none-refused (not (isKind (m .kind))) 1 _ (one .1) in
+        (not-false (m .good) (one .0), not-false (isKind (m .kind)) (two .0))
+
+    not-on-board : notOnBoardIn access x m ≡ true → errorBefore m ≡ 0 → messageOutcome access 1 x m ≡ rowOutcome (getD (m .payload) 0 0) 6 (idle x)
+    not-on-board o z =
+        let p = passed z in
+        let b = six-now (m .good) (m .kind) f (r .1) (p .0) (p .1) (subst (λ (l : Received). notOnBoardIn access x l ≡ true) (sym q) o) (ap errorBefore q ∙ z) in
+        ap (messageOutcome access 1 x) (sym q) ∙ b ∙ ap (λ (l : List ℕ). rowOutcome (getD l 0 0) 6 (idle x)) (r .0)
 
   no-field : (m : Received) → NotNumbered m → m .payload ≡ [] → messageOutcome access 1 x m ≡ outcomeBefore access x m
   unfolding messageOutcome commandOutcome commandError outcomeBefore errorBefore
@@ -143,6 +196,8 @@ pub one-as-before : OneAsBefore
 one-as-before P access x m n =
     record {
       one-field = one-field access x m n;
+      refused-before = refused-before access x m n;
+      not-on-board = not-on-board access x m n;
       no-field = no-field access x m n;
       refused = early access x m n (m .good) (isKind (m .kind)) refl refl;
       unfilled = unfilled access x m;

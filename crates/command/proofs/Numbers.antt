@@ -13,8 +13,8 @@ use Rattle.page.specs.declared.setting.Setting.the-variants.{Baud, Acceleromete
 use Rattle.page.specs.declared.setting.Stored.{Stored}
 use Rattle.page.specs.declared.setting.Stored.the-variants.{Absent, Value}
 use Rattle.page.specs.declared.setting.Values.{Values}
-use Rattle.page.specs.Settings.{lastNumber, keyAllowed}
-use Rattle.page.specs.Page.{withValue, allAllowed, writing, pageSize}
+use Rattle.page.specs.Settings.{lastNumber, keyStorable}
+use Rattle.page.specs.Page.{withValue, allStorable, writing, pageSize}
 use Rattle.page.specs.Lookup.{valuesIn}
 use Rattle.page.specs.Sound.{sound, refuseWriting, pageWriting}
 use Rattle.page.proofs.Pages.{read-back, put-keeps}
@@ -25,7 +25,7 @@ use Rattle.command.specs.declared.command.Command.{Command}
 use Rattle.command.specs.declared.command.Subject.{Subject}
 use Rattle.command.specs.declared.command.Subject.the-variants.{Ping, Setting as About, Unknown}
 use Rattle.command.specs.Command.{subjectOf, commandsOf}
-use Rattle.command.specs.Errors.{isUnknown, isFunction, sizeRight, valueRight, fieldWrong, alters, fieldError, commandError}
+use Rattle.command.specs.Errors.{isUnknown, isFunction, sizeRight, valueRight, fieldWrong, notOnBoard, alters, fieldError, commandError}
 use Rattle.command.specs.Numbers.{numberedKind, numberOf, innerKind, innerPayload, isFresh, numberError}
 use Rattle.command.specs.Effects.{workingValue, Effect, fieldEffect, effectOn, effectOf}
 use Rattle.command.specs.Outcome.{Access, State, Outcome, Received, thenOutcome, pageAfter, needsNumber, fieldOutcome, fieldsOutcome}
@@ -120,9 +120,9 @@ number-handles P access port x m n e =
 -- Values written to any page leave its number if they have it: they are written as they are, or not at all.
 writing-number : (v : Values) (page : List ℕ) → v .number ≡ numberOn page → numberOn (pageWriting v page .page) ≡ numberOn page
 unfolding pageWriting
-writing-number v page e = go (eqb (length page) pageSize) (allAllowed v) refl
+writing-number v page e = go (eqb (length page) pageSize) (allStorable v) refl
   where
-    go : (size all : Bool) → allAllowed v ≡ all
+    go : (size all : Bool) → allStorable v ≡ all
         → numberOn (refuseWriting (not size) 19 page (refuseWriting (not all) 20 page (record { number = 0; page = writing v })) .page) ≡ numberOn page
     go false all a = refl
     go true false a = refl
@@ -140,7 +140,7 @@ save-keeps-number page s x = writing-number (withValue (valuesIn page) s x) page
 -- A number put in on a sound page is the one that it keeps.
 pub put-number : (page : List ℕ) (n : ℕ) → sound page ≡ true → n < 4294967296 → numberOn (spentOn page n) ≡ Value n
 put-number page n h l =
-    let k : keyAllowed lastNumber n ≡ true = lt-ltb n 4294967296 l in
+    let k : keyStorable lastNumber n ≡ true = lt-ltb n 4294967296 l in
     ap numberOn (page-changes page lastNumber n h k .put-page) ∙ ap (λ (v : Values). v .number) (put-keeps page lastNumber n h k .values)
 
 module _ (guarded : Bool) where
@@ -232,7 +232,7 @@ without-number port x m e = rw (command-unguarded (eqb port 0) x (m .kind) (m .p
 -- ---- a page with a number, on port 0
 
 -- A field that needs a number leaves all as it is: it is refused, or it reads, or it is a Ping.
-module _ (loaded : Setting → ℕ) (w : Settings) (c : Command) where
+module _ (loaded : Setting → Stored) (w : Settings) (c : Command) where
   record Quiet (e : Effect) : Type 0 where
     same-settings : e .settings ≡ w
     no-save : e .saves ≡ none
@@ -248,14 +248,16 @@ module _ (loaded : Setting → ℕ) (w : Settings) (c : Command) where
       let two : c .function ≡ 2 = eqb-true (c .function) 2 (not-false (eqb (c .function) 2) b) in
       rw two (record { same-settings = refl; no-save = refl })
 
-  quiet : (subject : Subject) (n : ℕ) → refuse (isUnknown subject) 3 (refuse (alters subject c) 5 (refuse (fieldWrong subject c) 4 0)) ≡ n
+  quiet : (subject : Subject) (n : ℕ)
+      → refuse (isUnknown subject) 3 (refuse (alters subject c) 5 (refuse (fieldWrong subject c) 4 (refuse (notOnBoard subject loaded c) 6 0))) ≡ n
       → Quiet (effectOn n (fieldEffect subject loaded w c) w)
   quiet subject (suc n) e = record { same-settings = refl; no-save = refl }
   quiet Ping zero e = record { same-settings = refl; no-save = refl }
   quiet Unknown zero e = record { same-settings = refl; no-save = refl }
   quiet (About s) zero e = go (alters (About s) c) (fieldWrong (About s) c) refl refl e
     where
-      go : (a r : Bool) → alters (About s) c ≡ a → fieldWrong (About s) c ≡ r → refuse a 5 (refuse r 4 0) ≡ 0 → Quiet (fieldEffect (About s) loaded w c)
+      go : (a r : Bool) → alters (About s) c ≡ a → fieldWrong (About s) c ≡ r
+          → refuse a 5 (refuse r 4 (refuse (notOnBoard (About s) loaded c) 6 0)) ≡ 0 → Quiet (fieldEffect (About s) loaded w c)
       go true r as′ rs e = absurd (omega (arith, e))
       go false true as′ rs e = absurd (omega (arith, e))
       go false false as′ rs e = reads-only s as′ rs
@@ -268,7 +270,7 @@ module _ (kept : ℕ) where
   field-left : (x : State (List ℕ)) (c : Command) → numberOn (x .page) ≡ Value kept → Left x (fieldOutcome pageAccess true x c)
   unfolding fieldOutcome fieldError
   field-left x c e =
-      let q = quiet (loadedFrom (x .page)) (x .settings) c (subjectOf (c .kind) (c .code)) (fieldError (needsNumber pageAccess true (x .page)) c) (rw e) in
+      let q = quiet (loadedFrom (x .page)) (x .settings) c (subjectOf (c .kind) (c .code)) (fieldError (needsNumber pageAccess true (x .page)) (loadedFrom (x .page)) c) (rw e) in
       record { next = rw (q .same-settings, q .no-save); unmarked = rw (q .no-save) }
 
   fields-left : (x : State (List ℕ)) (cs : List Command) → numberOn (x .page) ≡ Value kept → Left x (fieldsOutcome pageAccess true x cs)

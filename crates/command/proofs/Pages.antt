@@ -1,56 +1,152 @@
 -- What handling does to a sound page, and the reply in a room of 166 bytes.
 use Prim.Native.Nat.{ℕ, zero, suc, _+_, _%_, _≤_, _<_}
 use native.Mathlib.Omega.{arith}
-use mathlib.Core.Path.{_≡_, refl, _∙_, ap}
-use mathlib.Core.Bool.{Bool, true, false, _||_, not, cond}
+use mathlib.Core.Path.{_≡_, refl, _∙_, ap, subst}
+use mathlib.Core.Bool.{Bool, true, false, _||_, not, cond, or-false}
 use mathlib.Core.List.{List, [], _∷_, _++_}
 use mathlib.Core.Option.{Option, none, some}
-use lib.Dec.{eqb, ltb}
+use lib.Dec.{eqb, leb, ltb}
 use lib.ListN.{length, getD, drop, length-drop, List·getD-append}
 use lib.Seq.{drop-append-le, take-append-le}
-use borrow.Author.Tests.{le-ltb, lt-ltb, eq-eqb}
+use borrow.Author.Tests.{le-ltb, lt-ltb, eq-eqb, ne-eqb, le-leb}
 use Rattle.page.specs.declared.setting.Setting.{Setting}
 use Rattle.page.specs.declared.setting.Setting.the-variants.{Baud, Accelerometer, Gyroscope}
+use Rattle.page.specs.declared.setting.Stored.{Stored}
+use Rattle.page.specs.declared.setting.Stored.the-variants.{Absent, Value}
 use Rattle.page.specs.declared.setting.Values.{Values}
-use Rattle.page.specs.Settings.{allowed, valueBytes, factoryValue, valueOf, lastNumber}
-use Rattle.page.specs.Page.{storedIn, allAllowed, withKey, writing, pageSize}
+use Rattle.page.specs.Settings.{usable, storable, notHere, valueBytes, factoryValue, valueOf, lastNumber}
+use Rattle.page.specs.Page.{isThere, storedIn, allStorable, withKey, writing, pageSize}
 use Rattle.page.specs.Lookup.{valuesIn}
 use Rattle.page.specs.Sound.{sound, pageWriting, putPage}
-use Rattle.page.specs.Theorems.{valueOr}
-use Rattle.page.proofs.Pages.{writing-size, in-use-kept, value-back, sound-is-writing, put-allowed, put-keeps, loads-stored}
+use Rattle.page.specs.Loading.{valueOn, ifUsable, loadedValue, valueOr}
+use Rattle.page.proofs.Pages.{both, writing-size, usable-storable, key-back, factory-usable, sound-is-writing, put-storable, put-keeps, looks-up-stored}
 use Rattle.message.specs.Message.{typeOf, lengthOf, payloadOf}
 use Rattle.message.specs.Fields.{fieldsOf}
+use Rattle.message.specs.Whole.{refuse}
 use Rattle.command.specs.declared.settings.Settings.{Settings}
 use Rattle.command.specs.declared.command.Command.{Command}
-use Rattle.command.specs.Command.{commandsOf}
-use Rattle.command.specs.Errors.{commandError}
+use Rattle.command.specs.Command.{valueFor, commandsOf}
+use Rattle.command.specs.Errors.{fieldWrong, fieldError, commandError}
 use Rattle.command.specs.Numbers.{numberedKind, numberOf, innerKind, innerPayload, numberError}
-use Rattle.command.specs.Effects.{workingValue, Effect, effectOf, settingsAllowed}
-use Rattle.command.specs.Outcome.{State, Outcome, Received, receivedOf, replyRow, isSave, thenOutcome, pageAfter, needsNumber, fieldOutcome, fieldsOutcome}
+use Rattle.command.specs.Effects.{workingValue, startSettings, Effect, functionEffect, effectOf, settingsUsable}
+use Rattle.command.specs.Outcome.{State, Outcome, Received, receivedOf, replyRow, rowOutcome, isSave, thenOutcome, pageAfter, effectOutcome, needsNumber, fieldOutcome, fieldsOutcome}
 use Rattle.command.specs.Handle.{fieldsIn, refusedOutcome, commandOn, commandOutcome, spent, numberedOn, numberedOutcome, messageOutcome}
-use Rattle.command.specs.Answer.{bodyValue, loadedFrom, putOn, savedOn, numberOn, pageAccess, replyRoom, Answering, answerWith, answerOn, answering}
-use Rattle.command.specs.Theorems.{LoadsStored, SaveOf, PageKept, PageChanges, FieldKeeps, ReplyWhole, AnswerKeeps, OwnBytes}
+use Rattle.command.specs.Answer.{bodyValue, lookedUp, loadedFrom, settingsFrom, putOn, savedOn, numberOn, pageAccess, replyRoom, Answering, answerWith, answerOn, answering}
+use Rattle.command.specs.OnBoard.{LoadsUsable, LoadsStored, StartsTake, Asks, working, refusing, FunctionOne, FunctionFour}
+use Rattle.command.specs.Theorems.{SaveOf, PageKept, PageChanges, FieldKeeps, ReplyWhole, AnswerKeeps, OwnBytes}
 use Rattle.command.specs.Puts.{Put, putsOn, isEmpty, savePuts, fieldPuts, fieldsPuts, commandPutsOn, commandPuts, numberedPutsOn, numberedPuts, messagePuts}
-use Rattle.command.proofs.Keeps.{value-allowed, keeps-allowed, saves-only, saves-then}
+use Rattle.command.proofs.Keeps.{value-usable, keeps-usable, saves-only, saves-then}
 
 -- ---- loading
 
-body-back : (s : Setting) (x : ℕ) → allowed s x ≡ true → bodyValue s (valueBytes s x) ≡ x
-body-back Baud x h = value-back Baud x h
-body-back Accelerometer x h = omega (arith, value-back Accelerometer x h)
-body-back Gyroscope x h = omega (arith, value-back Gyroscope x h)
+body-back : (s : Setting) (x : ℕ) → storable s x ≡ true → bodyValue s (valueBytes s x) ≡ x
+body-back Baud x h = key-back (valueOf Baud) x h
+body-back Accelerometer x h = omega (arith, key-back (valueOf Accelerometer) x h)
+body-back Gyroscope x h = omega (arith, key-back (valueOf Gyroscope) x h)
 
-pub loaded-stored : LoadsStored
+looked-up-stored : (page : List ℕ) (s : Setting) → sound page ≡ true → lookedUp page s ≡ valueOr (storedIn (valuesIn page) s) (factoryValue s)
+unfolding lookedUp
+looked-up-stored page s h =
+    let l = looks-up-stored page s h in
+    rw (l .body) (body-back s (valueOr (storedIn (valuesIn page) s) (factoryValue s)) (l .value-storable))
+
+load-of : (s : Setting) (b : Stored) → ifUsable s (valueOr b (factoryValue s)) ≡ loadedValue s b
+load-of s Absent = rw (factory-usable s)
+load-of s (Value x) = refl
+
+pub loads-stored : LoadsStored
 unfolding loadedFrom
-loaded-stored page s h =
-    let l = loads-stored page s h in
-    let x : ℕ = valueOr (storedIn (valuesIn page) s) (factoryValue s) in
-    let e : bodyValue s (valueBytes s x) ≡ x = body-back s x (l .value-allowed) in
-    record { value = rw (l .body) e; value-allowed = rw (l .body, e) (l .value-allowed) }
+loads-stored page s h = rw (looked-up-stored page s h) (load-of s (storedIn (valuesIn page) s))
+
+pub loads-usable : LoadsUsable
+unfolding loadedFrom
+loads-usable page s x e = go (usable s (lookedUp page s)) refl e
+  where
+    go : (b : Bool) → usable s (lookedUp page s) ≡ b → valueOn b (lookedUp page s) ≡ Value x → usable s x ≡ true
+    go true u e = let q : lookedUp page s ≡ x = cc in subst (λ (y : ℕ). usable s y ≡ true) q u
+    go false u e = let z : _≡_ {A = ℕ} 0 1 = cc in absurd (omega arith)
+
+-- ---- starting
+
+start-working : (page : List ℕ) (s : Setting) → workingValue (settingsFrom page) s ≡ valueOr (loadedFrom page s) (factoryValue s)
+unfolding startSettings
+start-working page Baud = refl
+start-working page Accelerometer = refl
+start-working page Gyroscope = refl
+
+-- What is loaded from a sound page, by what it holds.
+loads-held : (page : List ℕ) (s : Setting) → sound page ≡ true → {b : Stored} → storedIn (valuesIn page) s ≡ b → loadedFrom page s ≡ loadedValue s b
+loads-held page s h e = loads-stored page s h ∙ ap (loadedValue s) e
+
+pub start-takes : StartsTake
+start-takes page s h =
+    record {
+      held = λ v e u. start-working page s ∙ rw (loads-held page s h e, u);
+      unheld = λ e. start-working page s ∙ rw (loads-held page s h e);
+      not-on-board = λ v e u. start-working page s ∙ rw (loads-held page s h e, u);
+    }
+
+-- ---- functions 1 and 4
+
+module _ (guarded : Bool) (x : State (List ℕ)) (c : Command) (s : Setting) where
+  unfoldable error : ℕ
+  error = fieldError (needsNumber pageAccess guarded (x .page)) (loadedFrom (x .page)) c
+
+  -- A refused field leaves all as it is.
+  refused-with : (n : ℕ) → error ≡ suc n → fieldOutcome pageAccess guarded x c ≡ refusing x c (suc n)
+  unfolding fieldOutcome error
+  refused-with n e = rw e
+
+  module _ (a : Asks guarded x c s 1) where
+    error-one : error ≡ refuse (not (storable s (valueFor s c))) 4 (refuse (notHere s (valueFor s c)) 6 0)
+    unfolding error fieldError fieldWrong
+    error-one =
+        let one : eqb (c .function) 1 ≡ true = eq-eqb (c .function) 1 (a .function-is) in
+        let four : eqb (c .function) 4 ≡ false = ne-eqb (c .function) 4 (λ f. omega (arith, a .function-is)) in
+        let low : leb 1 (c .function) ≡ true = le-leb 1 (c .function) (omega (arith, a .function-is)) in
+        let high : leb (c .function) 5 ≡ true = le-leb (c .function) 5 (omega (arith, a .function-is)) in
+        rw (a .about, a .free, a .size, low, high, one, four, or-false (notHere s (valueFor s c)))
+
+    used-with : usable s (valueFor s c) ≡ true → fieldOutcome pageAccess guarded x c ≡ working x c s (valueFor s c)
+    unfolding fieldOutcome error
+    used-with u =
+        let e : error ≡ 0 = error-one ∙ rw (usable-storable s (valueFor s c) u, u) in
+        rw (e, a .about) (one (c .function) (a .function-is))
+      where
+        one : (f : ℕ) → f ≡ 1
+            → rowOutcome (c .code) 0 (effectOutcome savedOn (functionEffect f (loadedFrom (x .page)) (x .settings) s (valueFor s c)) x) ≡ working x c s (valueFor s c)
+        one f e = rw e
+
+  module _ (a : Asks guarded x c s 4) where
+    error-four : error ≡ refuse (not (isThere (loadedFrom (x .page) s))) 6 0
+    unfolding error fieldError fieldWrong
+    error-four = rw (a .about, a .free, a .size, a .function-is)
+
+    loaded-with : (v : ℕ) → loadedFrom (x .page) s ≡ Value v → fieldOutcome pageAccess guarded x c ≡ working x c s v
+    unfolding fieldOutcome error
+    loaded-with v l =
+        let e : error ≡ 0 = error-four ∙ rw l in
+        rw (e, a .about, a .function-is, l)
+
+pub uses-or-refuses : FunctionOne
+uses-or-refuses guarded x c s a =
+    record {
+      used = used-with guarded x c s a;
+      not-on-board = λ h. let b = both (storable s (valueFor s c)) (not (usable s (valueFor s c))) h in refused-with guarded x c s 5 (error-one guarded x c s a ∙ rw (b .0, b .1));
+      bad = λ h. refused-with guarded x c s 3 (error-one guarded x c s a ∙ rw h);
+    }
+
+pub loads-or-refuses : FunctionFour
+loads-or-refuses guarded x c s h a =
+    record {
+      held = λ v e u. loaded-with guarded x c s a v (loads-held (x .page) s h e ∙ rw u);
+      unheld = λ e. loaded-with guarded x c s a (factoryValue s) (loads-held (x .page) s h e);
+      not-on-board = λ v e u. refused-with guarded x c s 5 (error-four guarded x c s a ∙ rw (loads-held (x .page) s h e, u));
+    }
 
 -- ---- values put in
 
-page-written : (v : Values) (page : List ℕ) → length page ≡ pageSize → allAllowed v ≡ true → pageWriting v page .page ≡ writing v
+page-written : (v : Values) (page : List ℕ) → length page ≡ pageSize → allStorable v ≡ true → pageWriting v page .page ≡ writing v
 unfolding pageWriting
 page-written v page l a = rw (eq-eqb (length page) pageSize l, a)
 
@@ -59,13 +155,13 @@ unfolding putPage
 page-changes page k x h ok =
     let i = sound-is-writing page h in
     let l : length page ≡ pageSize = ap length (i .written) ∙ writing-size (valuesIn page) in
-    let v : allAllowed (withKey (valuesIn page) k x) ≡ true = put-allowed (valuesIn page) k x (i .allowed-values) ok in
+    let v : allStorable (withKey (valuesIn page) k x) ≡ true = put-storable (valuesIn page) k x (i .storable-values) ok in
     let e : putOn page k x ≡ putPage page k x = page-written (withKey (valuesIn page) k x) page l v in
     record { put-page = e; sound-page = rw e (put-keeps page k x h ok .sound-page) }
 
 -- A save of a value that can be in use.
-pub save-changes : (page : List ℕ) (s : Setting) (x : ℕ) → sound page ≡ true → allowed s x ≡ true → PageKept page (valueOf s) x
-save-changes page s x h ok = page-changes page (valueOf s) x h (in-use-kept s x ok)
+pub save-changes : (page : List ℕ) (s : Setting) (x : ℕ) → sound page ≡ true → usable s x ≡ true → PageKept page (valueOf s) x
+save-changes page s x h ok = page-changes page (valueOf s) x h (usable-storable s x ok)
 
 -- A number is four bytes.
 pub number-small : (payload : List ℕ) → numberOf payload < 4294967296
@@ -73,9 +169,9 @@ number-small payload = omega arith
 
 -- ---- a field, and a message
 
--- A sound page, and allowed working values.
+-- A sound page, and usable working values.
 pub record Sound (x : State (List ℕ)) : Type 0 where
-  pub settings : settingsAllowed (x .settings) ≡ true
+  pub settings : settingsUsable (x .settings) ≡ true
   pub page : sound (x .page) ≡ true
 
 -- What an outcome leaves: the page with exactly these values put in, and the mark where there is one.
@@ -89,10 +185,10 @@ record SavedAs (saves : Option Setting) (w : Settings) (page : List ℕ) : Type 
   written : pageAfter savedOn saves w page ≡ putsOn page (savePuts saves w)
   mark : isSave saves ≡ not (isEmpty (savePuts saves w))
 
-saved-as : (saves : Option Setting) (w : Settings) (page : List ℕ) → sound page ≡ true → settingsAllowed w ≡ true → SavedAs saves w page
+saved-as : (saves : Option Setting) (w : Settings) (page : List ℕ) → sound page ≡ true → settingsUsable w ≡ true → SavedAs saves w page
 saved-as none w page h a = record { stays = h; written = refl; mark = refl }
 saved-as (some s) w page h a =
-    let k = save-changes page s (workingValue w s) h (value-allowed w s a) in
+    let k = save-changes page s (workingValue w s) h (value-usable w s a) in
     record { stays = k .sound-page; written = k .put-page; mark = refl }
 
 pub field-goes : (guarded : Bool) (x : State (List ℕ)) (c : Command) → Sound x
@@ -102,9 +198,8 @@ field-goes guarded x c k =
     let needs = needsNumber pageAccess guarded (x .page) in
     let e = effectOf needs (loadedFrom (x .page)) (x .settings) c in
     let s = saved-as (e .saves) (x .settings) (x .page) (k .page) (k .settings) in
-    let l : (s : Setting) → allowed s (loadedFrom (x .page) s) ≡ true = λ s. loaded-stored (x .page) s (k .page) .value-allowed in
     record {
-      stays = record { settings = keeps-allowed needs (loadedFrom (x .page)) (x .settings) c l (k .settings); page = s .stays };
+      stays = record { settings = keeps-usable needs (loadedFrom (x .page)) (x .settings) c (loads-usable (x .page)) (k .settings); page = s .stays };
       written = s .written;
       mark = s .mark;
     }
@@ -115,7 +210,7 @@ field-keeps guarded x c h a =
     record {
       saved = λ s so.
           (let e : effect .saves ≡ some s = saves-then needs (loadedFrom (x .page)) (x .settings) c s so in
-          (rw e, rw e (save-changes (x .page) s (workingValue (x .settings) s) h (value-allowed (x .settings) s a) .put-page)));
+          (rw e, rw e (save-changes (x .page) s (workingValue (x .settings) s) h (value-usable (x .settings) s a) .put-page)));
       unsaved = λ n. go n (effect .saves) refl;
     }
   where
@@ -125,7 +220,7 @@ field-keeps guarded x c h a =
     effect : Effect
     effect = effectOf needs (loadedFrom (x .page)) (x .settings) c
 
-    go : ((s : Setting) → SaveOf needs c s → ⊥) → (saves : Option Setting) → effect .saves ≡ saves
+    go : ((s : Setting) → SaveOf needs (loadedFrom (x .page)) c s → ⊥) → (saves : Option Setting) → effect .saves ≡ saves
         → (isSave (effect .saves) ≡ false) × (pageAfter savedOn (effect .saves) (x .settings) (x .page) ≡ x .page)
     go n none e = (rw e, rw e)
     go n (some s) e = absurd (n s (saves-only needs (loadedFrom (x .page)) (x .settings) c s e))
@@ -225,7 +320,7 @@ pub answer-keeps : AnswerKeeps
 unfolding answering
 answer-keeps port m w room page h a =
     record {
-      settings-allowed = go (ltb (length room) replyRoom) .0;
+      settings-usable = go (ltb (length room) replyRoom) .0;
       page-sound = go (ltb (length room) replyRoom) .1;
       page-after = λ l. rw (answer-large port m w room page l) (g .written);
       mark = λ l. rw (answer-large port m w room page l) (g .mark);
@@ -238,7 +333,7 @@ answer-keeps port m w room page h a =
     g : Goes page (messagePuts port x m) (messageOutcome pageAccess port x m)
     g = message-goes port x m (record { settings = a; page = h })
 
-    go : (b : Bool) → (settingsAllowed (answerOn b (m .kind) (messageOutcome pageAccess port x m) w room page .answer .settings) ≡ true)
+    go : (b : Bool) → (settingsUsable (answerOn b (m .kind) (messageOutcome pageAccess port x m) w room page .answer .settings) ≡ true)
         × (sound (answerOn b (m .kind) (messageOutcome pageAccess port x m) w room page .page) ≡ true)
     go true = (a, h)
     go false = (g .stays .settings, g .stays .page)

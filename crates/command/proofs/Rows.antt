@@ -7,6 +7,7 @@ use mathlib.Core.List.{List, [], _∷_}
 use lib.Dec.{eqb}
 use lib.ListN.{length, getD, length-append}
 use Rattle.page.specs.declared.setting.Setting.{Setting}
+use Rattle.page.specs.declared.setting.Stored.{Stored}
 use Rattle.page.specs.declared.setting.Setting.the-variants.{Baud, Accelerometer, Gyroscope}
 use Rattle.message.specs.Fields.{Field, fieldsOf}
 use Rattle.command.specs.declared.settings.Settings.{Settings}
@@ -26,7 +27,7 @@ row-most Baud x = omega arith
 row-most Accelerometer x = omega arith
 row-most Gyroscope x = omega arith
 
-pub function-row : (f : ℕ) (loaded : Setting → ℕ) (w : Settings) (s : Setting) (x : ℕ) → length (functionEffect f loaded w s x .report) ≤ 6
+pub function-row : (f : ℕ) (loaded : Setting → Stored) (w : Settings) (s : Setting) (x : ℕ) → length (functionEffect f loaded w s x .report) ≤ 6
 function-row zero loaded w s x = omega arith
 function-row (suc zero) loaded w s x = omega arith
 function-row (suc (suc zero)) loaded w s x = row-most s (workingValue w s)
@@ -34,14 +35,14 @@ function-row (suc (suc (suc zero))) loaded w s x = omega arith
 function-row (suc (suc (suc (suc zero)))) loaded w s x = omega arith
 function-row (suc (suc (suc (suc (suc f))))) loaded w s x = omega arith
 
-field-row : (subject : Subject) (loaded : Setting → ℕ) (w : Settings) (c : Command) → length (fieldEffect subject loaded w c .report) ≤ 6
+field-row : (subject : Subject) (loaded : Setting → Stored) (w : Settings) (c : Command) → length (fieldEffect subject loaded w c .report) ≤ 6
 field-row Ping loaded w c = omega arith
 field-row (About s) loaded w c = function-row (c .function) loaded w s (valueFor s c)
 field-row Unknown loaded w c = omega arith
 
-pub effect-row : (needs : Bool) (loaded : Setting → ℕ) (w : Settings) (c : Command) → length (effectOf needs loaded w c .report) ≤ 6
+pub effect-row : (needs : Bool) (loaded : Setting → Stored) (w : Settings) (c : Command) → length (effectOf needs loaded w c .report) ≤ 6
 unfolding effectOf
-effect-row needs loaded w c = go (fieldError needs c)
+effect-row needs loaded w c = go (fieldError needs loaded c)
   where
     go : (n : ℕ) → length (effectOn n (fieldEffect (subjectOf (c .kind) (c .code)) loaded w c) w .report) ≤ 6
     go zero = field-row (subjectOf (c .kind) (c .code)) loaded w c

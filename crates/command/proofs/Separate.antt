@@ -10,6 +10,8 @@ use lib.Dec.{eqb}
 use borrow.Author.Tests.{ne-eqb}
 use lib.ListN.{length, getD, length-append, length-take}
 use Rattle.page.specs.Settings.{settingOf}
+use Rattle.page.specs.declared.setting.Setting.{Setting}
+use Rattle.page.specs.declared.setting.Stored.{Stored}
 use Rattle.message.specs.Fields.{Field, fieldBytes, rowBytes, SizesRight, fieldsOf}
 use Rattle.message.specs.Message.{messageOf, typeOf, payloadOf}
 use Rattle.message.specs.Theorems.{RoundTrip}
@@ -156,14 +158,14 @@ unfolding commandOf fieldsOf
 sixteen-are = refl
 
 -- A report needs no number.
-report-right : (needs : Bool) → fieldError needs report ≡ 0
+report-right : (needs : Bool) (loaded : Setting → Stored) → fieldError needs loaded report ≡ 0
 unfolding fieldError fieldWrong subjectOf settingOf
-report-right needs = rw (and-false needs)
+report-right needs loaded = rw (and-false needs)
 
 module _ {P : Type 0} (access : Access P) (guarded : Bool) where
   report-rows : (x : State P) → length (fieldOutcome access guarded x report .rows) ≡ 10
   unfolding fieldOutcome subjectOf settingOf
-  report-rows x = rw (report-right (needsNumber access guarded (x .page)))
+  report-rows x = rw (report-right (needsNumber access guarded (x .page)) (access .loaded (x .page)))
 
   reports-rows : (x : State P) (n : ℕ) → length (fieldsOutcome access guarded x (reports n) .rows) ≡ 10 * n
   unfolding fieldsOutcome

@@ -8,10 +8,13 @@ use mathlib.Core.Option.{Option, none, some}
 use lib.Dec.{eqb, leb, ltb}
 use lib.ListN.{length, take}
 use Rattle.stream.proofs.Bools.{differ}
-use borrow.Author.Tests.{eq-eqb, ne-eqb, le-leb, lt-leb, not-true, not-false, ltb-false}
+use borrow.Author.Tests.{eq-eqb, ne-eqb, le-leb, lt-leb, le-ltb, lt-ltb, leb-true, leb-false, not-true, not-false, ltb-false}
 use Rattle.page.specs.declared.setting.Setting.{Setting}
 use Rattle.page.specs.declared.setting.Setting.the-variants.{Baud, Accelerometer, Gyroscope}
-use Rattle.page.specs.Settings.{allowed, valueSize}
+use Rattle.page.specs.declared.setting.Stored.{Stored}
+use Rattle.page.specs.Settings.{usable, storable, notHere, valueSize}
+use Rattle.page.specs.Page.{isThere}
+use Rattle.page.proofs.Pages.{usable-storable}
 use Rattle.command.specs.declared.settings.Settings.{Settings}
 use Rattle.command.specs.declared.command.Command.{Command}
 use Rattle.command.specs.declared.command.Subject.{Subject}
@@ -19,9 +22,9 @@ use Rattle.command.specs.declared.command.Subject.the-variants.{Ping, Se
 use Rattle.command.specs.Command.{valueFor, subjectOf}
 use Rattle.message.specs.Fields.{Field, consField, fieldsPast, fieldsOf}
 use Rattle.message.specs.Whole.{refuse}
-use Rattle.command.specs.Errors.{isUnknown, isFunction, fieldWrong, fieldError, alters, fieldsRefused, isKind, commandError}
+use Rattle.command.specs.Errors.{isUnknown, isFunction, sizeRight, functionRight, fieldWrong, notOnBoard, fieldError, alters, fieldsRefused, isKind, commandError}
 use Rattle.command.specs.Handle.{fieldsIn}
-use Rattle.command.specs.Effects.{settingsAllowed}
+use Rattle.command.specs.Effects.{settingsUsable}
 
 -- ---- the size
 
@@ -42,48 +45,85 @@ size-most Baud = omega arith
 size-most Accelerometer = omega arith
 size-most Gyroscope = omega arith
 
-module _ (s : Setting) (c : Command) (v n : ℕ) (vs : v ≡ valueSize s) (ns : n ≡ c .size) (b : Bool) (is : b ≡ eqb n (1 + v) || eqb n 1 && not (eqb (c .function) 1)) where
+-- Its own error: 4, then 6.
+abbrev pub ownError : Subject → (Setting → Stored) → Command → ℕ
+ownError subject loaded c = refuse (fieldWrong subject c) 4 (refuse (notOnBoard subject loaded c) 6 0)
+
+-- Its size and its function.
+abbrev malformed : Setting → Command → Bool
+malformed s c = not (sizeRight (About s) c) || not (functionRight (About s) c)
+
+module _ (s : Setting) (c : Command) (v n : ℕ) (vs : v ≡ valueSize s) (ns : n ≡ c .size) (b : Bool)
+    (is : b ≡ eqb n (1 + v) || eqb n 1 && not (eqb (c .function) 1)) where
   size-is : b ≡ eqb (c .size) (1 + valueSize s) || eqb (c .size) 1 && not (eqb (c .function) 1)
   size-is = rw (← vs, ← ns) is
 
-  pub wrong-size : not b ≡ true → true ≡ fieldWrong (About s) c
-  unfolding fieldWrong
+  pub wrong-size : not b ≡ true → true ≡ malformed s c
   wrong-size e = rw (← size-is, not-true b e)
 
   module _ (right : not b ≡ false) where
-    e : b ≡ true
-    e = not-false b right
+    pub wrong-low : c .function < 1 → true ≡ malformed s c
+    wrong-low h = rw (← size-is, not-false b right, lt-leb 1 (c .function) h)
 
-    pub wrong-low : c .function < 1 → true ≡ fieldWrong (About s) c
+    pub wrong-high : 1 ≤ c .function → ltb 5 (c .function) ≡ malformed s c
+    wrong-high g = rw (← size-is, not-false b right, le-leb 1 (c .function) g) (above 5 (c .function))
+      where
+        above : (m n : ℕ) → ltb m n ≡ not (leb n m)
+        above m n = go (leb n m) refl
+          where
+            go : (b : Bool) → leb n m ≡ b → ltb m n ≡ not (leb n m)
+            go true e = rw (e, le-ltb m n (leb-true n m e))
+            go false e = rw (e, lt-ltb m n (leb-false n m e))
+
+module _ (loaded : Setting → Stored) (s : Setting) (c : Command) (m : Bool) (ms : m ≡ malformed s c) where
+  pub own-malformed : m ≡ true → 4 ≡ ownError (About s) loaded c
+  unfolding fieldWrong
+  own-malformed e = rw (← ms, e)
+
+  module _ (formed : m ≡ false) where
+    pub own-value : c .function ≡ 1 → (x : ℕ) → x ≡ valueFor s c → (r : ℕ) → r ≡ refuse (not (storable s x)) 4 (refuse (notHere s x) 6 0)
+        → r ≡ ownError (About s) loaded c
     unfolding fieldWrong
-    wrong-low h = rw (← size-is, e, lt-leb 1 (c .function) h)
+    own-value h x xs r rs =
+        let n : eqb (c .function) 4 ≡ false = ne-eqb (c .function) 4 (λ f. omega arith) in
+        rs ∙ rw (← ms, formed, eq-eqb (c .function) 1 h, n, ← xs, or-false (notHere s x))
 
-    pub wrong-high : 1 ≤ c .function → 5 < c .function → true ≡ fieldWrong (About s) c
+    pub own-load : (c .function ≡ 1 → ⊥) → c .function ≡ 4 → (r : ℕ) → r ≡ refuse (not (isThere (loaded s))) 6 0 → r ≡ ownError (About s) loaded c
     unfolding fieldWrong
-    wrong-high g h = rw (← size-is, e, le-leb 1 (c .function) g, lt-leb (c .function) 5 h)
+    own-load n h r rs = rs ∙ rw (← ms, formed, ne-eqb (c .function) 1 n, eq-eqb (c .function) 4 h)
 
-    module _ (low : 1 ≤ c .function) (high : c .function ≤ 5) where
-      pub right-unlooked : (c .function ≡ 1 → ⊥) → false ≡ fieldWrong (About s) c
-      unfolding fieldWrong
-      right-unlooked h = rw (← size-is, e, le-leb 1 (c .function) low, le-leb (c .function) 5 high, ne-eqb (c .function) 1 h)
+    pub own-other : (c .function ≡ 1 → ⊥) → (c .function ≡ 4 → ⊥) → 0 ≡ ownError (About s) loaded c
+    unfolding fieldWrong
+    own-other n k = rw (← ms, formed, ne-eqb (c .function) 1 n, ne-eqb (c .function) 4 k)
 
-      pub value-tested : c .function ≡ 1 → (x : ℕ) → x ≡ valueFor s c → (a : Bool) → a ≡ allowed s x → not a ≡ fieldWrong (About s) c
-      unfolding fieldWrong
-      value-tested h x xs a ok = rw (← size-is, e, le-leb 1 (c .function) low, le-leb (c .function) 5 high, eq-eqb (c .function) 1 h, ← xs, ← ok)
+-- The error of a value sent with function 1.
+module _ (s : Setting) (x : ℕ) (a : Bool) (as′ : a ≡ usable s x) where
+  abbrev valueError : ℕ
+  valueError = refuse (not (storable s x)) 4 (refuse (notHere s x) 6 0)
+
+  pub value-usable : a ≡ true → 0 ≡ valueError
+  value-usable e = let u : usable s x ≡ true = sym as′ ∙ e in rw (usable-storable s x u, u)
+
+  module _ (n : a ≡ false) (b : Bool) (bs : b ≡ storable s x) where
+    pub value-not-here : b ≡ true → 6 ≡ valueError
+    value-not-here e = rw (← bs, e, ← as′, n)
+
+    pub value-wrong : b ≡ false → 4 ≡ valueError
+    value-wrong e = rw (← bs, e)
 
 -- ---- any field
 
-module _ (subject : Subject) (c : Command) where
-  pub wrong-ping : subject ≡ Ping → not (eqb (c .size) 0) ≡ fieldWrong subject c
+module _ (subject : Subject) (loaded : Setting → Stored) (c : Command) where
+  pub own-ping : subject ≡ Ping → (r : ℕ) → r ≡ refuse (not (eqb (c .size) 0)) 4 0 → r ≡ ownError subject loaded c
   unfolding fieldWrong
-  wrong-ping e = rw (e, or-false, or-false)
+  own-ping e r h = h ∙ rw (e, or-false, or-false)
 
-  pub wrong-setting : (s : Setting) → subject ≡ About s → (b : Bool) → b ≡ fieldWrong (About s) c → b ≡ fieldWrong subject c
-  wrong-setting s e b w = rw e w
+  pub own-setting : (s : Setting) → subject ≡ About s → (r : ℕ) → r ≡ ownError (About s) loaded c → r ≡ ownError subject loaded c
+  own-setting s e r w = rw e w
 
-  pub wrong-unknown : subject ≡ Unknown → true ≡ fieldWrong subject c
+  pub own-unknown : subject ≡ Unknown → 4 ≡ ownError subject loaded c
   unfolding fieldWrong
-  wrong-unknown e = rw e
+  own-unknown e = rw e
 
 -- ---- functions 1, 3, 4 and 5
 
@@ -113,24 +153,20 @@ module _ (guarded : Bool) (a : Bool) (kept : Bool) where
   missing-kept e b bs h r rs = rw (rs, not-false guarded e, ← bs, not-false b h, and-true kept)
 
 -- The field's error, with what it is about.
-module _ (needs : Bool) (c : Command) (subject : Subject) (is : subject ≡ subjectOf (c .kind) (c .code)) (u : Bool) (us : u ≡ isUnknown subject) where
-  pub error-unknown : u ≡ true → 3 ≡ fieldError needs c
+module _ (needs : Bool) (loaded : Setting → Stored) (c : Command) (subject : Subject) (is : subject ≡ subjectOf (c .kind) (c .code)) (u : Bool)
+    (us : u ≡ isUnknown subject) where
+  pub error-unknown : u ≡ true → 3 ≡ fieldError needs loaded c
   unfolding fieldError
   error-unknown e = rw (← is, ← us, e)
 
   module _ (known : u ≡ false) (n : Bool) (ns : n ≡ needs && alters subject c) where
-    pub error-number : n ≡ true → 5 ≡ fieldError needs c
+    pub error-number : n ≡ true → 5 ≡ fieldError needs loaded c
     unfolding fieldError
     error-number e = rw (← is, ← us, known, ← ns, e)
 
-    module _ (free : n ≡ false) (w : Bool) (ws : w ≡ fieldWrong subject c) where
-      pub error-field : w ≡ true → 4 ≡ fieldError needs c
-      unfolding fieldError
-      error-field e = rw (← is, ← us, known, ← ns, free, ← ws, e)
-
-      pub error-none : w ≡ false → 0 ≡ fieldError needs c
-      unfolding fieldError
-      error-none e = rw (← is, ← us, known, ← ns, free, ← ws, e)
+    pub error-own : n ≡ false → (r : ℕ) → r ≡ ownError subject loaded c → r ≡ fieldError needs loaded c
+    unfolding fieldError
+    error-own free r rs = rs ∙ rw (← is, ← us, known, ← ns, free)
 
 -- ---- a command as a whole
 
@@ -217,19 +253,19 @@ module _ (kind : ℕ) where
 
 -- ---- the working values
 
-module _ (w : Settings) (a : Bool) (ok : a ≡ allowed Baud (w .baud)) where
-  pub baud-not : not a ≡ true → false ≡ settingsAllowed w
-  unfolding settingsAllowed
+module _ (w : Settings) (a : Bool) (ok : a ≡ usable Baud (w .baud)) where
+  pub baud-not : not a ≡ true → false ≡ settingsUsable w
+  unfolding settingsUsable
   baud-not e = rw (← ok, not-true a e)
 
-  module _ (n : not a ≡ false) (x : ℕ) (xs : x ≡ w .accelerometer) (b : Bool) (bs : b ≡ allowed Accelerometer x) where
+  module _ (n : not a ≡ false) (x : ℕ) (xs : x ≡ w .accelerometer) (b : Bool) (bs : b ≡ usable Accelerometer x) where
     baud-right : a ≡ true
     baud-right = not-false a n
 
-    pub accelerometer-not : not b ≡ true → false ≡ settingsAllowed w
-    unfolding settingsAllowed
+    pub accelerometer-not : not b ≡ true → false ≡ settingsUsable w
+    unfolding settingsUsable
     accelerometer-not f = rw (← ok, baud-right, ← xs, ← bs, not-true b f)
 
-    pub all-tested : not b ≡ false → (y : ℕ) → y ≡ w .gyroscope → (g : Bool) → g ≡ allowed Gyroscope y → g ≡ settingsAllowed w
-    unfolding settingsAllowed
+    pub all-tested : not b ≡ false → (y : ℕ) → y ≡ w .gyroscope → (g : Bool) → g ≡ usable Gyroscope y → g ≡ settingsUsable w
+    unfolding settingsUsable
     all-tested f y ys g gs = rw (← ok, baud-right, ← xs, ← bs, not-false b f, ← ys, ← gs)

@@ -11,10 +11,12 @@ use Rattle.page.specs.declared.setting.Stored.{Stored}
 use Rattle.page.specs.Settings.{codeOf, Key, valueOf, lastNumber}
 use Rattle.page.specs.Page.{withKey, factoryPage}
 use Rattle.page.specs.Lookup.{bodyOf, valuesIn}
+use Rattle.page.specs.Loading.{ifUsable}
 use Rattle.page.specs.Sound.{pageWriting}
 use Rattle.message.specs.Write.{doneWriting}
 use Rattle.command.specs.declared.settings.Settings.{Settings}
 use Rattle.command.specs.declared.answer.Answer.{Answer}
+use Rattle.command.specs.Effects.{startSettings}
 use Rattle.command.specs.Outcome.{Access, Outcome, Received, replyOf}
 use Rattle.command.specs.Handle.{messageOutcome}
 
@@ -25,12 +27,16 @@ bodyValue Accelerometer bs = getD bs 0 0
 bodyValue Gyroscope bs = getD bs 0 0
 
 -- Loading takes the body from the page if it has the entry, else from the factory page.
-unfoldable pub loadedFrom : List ℕ → Setting → ℕ
-loadedFrom page s = bodyValue s (bodyOf page factoryPage (codeOf s))
+unfoldable pub lookedUp : List ℕ → Setting → ℕ
+lookedUp page s = bodyValue s (bodyOf page factoryPage (codeOf s))
+
+-- A value that is not usable on this board is not loaded.
+unfoldable pub loadedFrom : List ℕ → Setting → Stored
+loadedFrom page s = ifUsable s (lookedUp page s)
 
 -- The settings as starting sets them.
-unfoldable pub settingsFrom : List ℕ → Settings
-settingsFrom page = record { baud = loadedFrom page Baud; accelerometer = loadedFrom page Accelerometer; gyroscope = loadedFrom page Gyroscope }
+abbrev pub settingsFrom : List ℕ → Settings
+settingsFrom page = startSettings (loadedFrom page)
 
 -- A value put in: the other entries are kept, and the page is written anew.
 abbrev pub putOn : List ℕ → Key → ℕ → List ℕ

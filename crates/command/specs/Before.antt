@@ -1,7 +1,7 @@
--- Document 01's handling before requests 02 and 03, when a message had one field and no number, and what the requests left of it. No
--- other file uses these definitions.
+-- Document 01's handling before requests 02, 03 and 05, when a message had one field and no number and this board the gyroscope's ranges
+-- 06 and 07, and what the requests left of it. No other file uses these definitions.
 use mathlib.Core.Path.{_≡_}
-use mathlib.Core.Bool.{true, _||_, not, cond}
+use mathlib.Core.Bool.{Bool, true, false, _||_, not, cond}
 use mathlib.Core.List.{List, [], _∷_}
 use mathlib.Core.Option.{some}
 use Prim.Native.Nat.{ℕ, _+_}
@@ -11,7 +11,7 @@ use Rattle.message.specs.Fields.{Field, fieldsOf}
 use Rattle.message.specs.Whole.{refuse}
 use Rattle.command.specs.declared.command.Command.{Command}
 use Rattle.command.specs.Command.{commandOf, subjectOf}
-use Rattle.command.specs.Errors.{isUnknown, fieldWrong, fieldsRefused, isKind}
+use Rattle.command.specs.Errors.{isUnknown, fieldWrong, notOnBoard, fieldsRefused, isKind}
 use Rattle.command.specs.Numbers.{numberedKind}
 use Rattle.command.specs.Effects.{fieldEffect, effectOn}
 use Rattle.command.specs.Outcome.{Access, State, Outcome, Received, idle, rowOutcome, effectOutcome}
@@ -41,11 +41,20 @@ outcomeBefore access x m =
     (effectOn (errorBefore m) (fieldEffect (subjectOf (m .kind) (getD (m .payload) 0 0)) (access .loaded (x .page)) (x .settings) (oneCommand m)) (x .settings))
     x)
 
+-- Request 05: what its one field sends, or would load, is not on this board.
+abbrev pub notOnBoardIn : {P : Type 0} → Access P → State P → Received → Bool
+notOnBoardIn access x m = notOnBoard (subjectOf (m .kind) (getD (m .payload) 0 0)) (access .loaded (x .page)) (oneCommand m)
+
 -- What a message is handled to, now and before: one that is not of type 7C, on port 1. (On port 0 it is the same as long as the page
 -- has no number: `WithoutNumber` in Numbered.)
 pub record NowAndBefore {P : Type 0} (access : Access P) (x : State P) (m : Received) : Type 0 where
-  -- One field, no field, wrong sums, another type: as before.
-  pub one-field : (f : Field) → fieldsOf (m .payload) ≡ some (f ∷ []) → messageOutcome access 1 x m ≡ outcomeBefore access x m
+  -- One field, no field, wrong sums, another type: as before, but for a value that is not on this board. (What function 4 loaded from a page with
+  -- 06 or 07 is not said here: `loaded` is today's.)
+  pub one-field : (f : Field) → fieldsOf (m .payload) ≡ some (f ∷ []) → notOnBoardIn access x m ≡ false → messageOutcome access 1 x m ≡ outcomeBefore access x m
+  -- Where it is not, what was refused before is refused as before, and what was accepted is 6 now, and changes nothing.
+  pub refused-before : (f : Field) → fieldsOf (m .payload) ≡ some (f ∷ []) → (errorBefore m ≡ 0 → ⊥) → messageOutcome access 1 x m ≡ outcomeBefore access x m
+  pub not-on-board : (f : Field) → fieldsOf (m .payload) ≡ some (f ∷ []) → notOnBoardIn access x m ≡ true → errorBefore m ≡ 0
+      → messageOutcome access 1 x m ≡ rowOutcome (getD (m .payload) 0 0) 6 (idle x)
   pub no-field : m .payload ≡ [] → messageOutcome access 1 x m ≡ outcomeBefore access x m
   pub refused : not (m .good) || not (isKind (m .kind)) ≡ true → messageOutcome access 1 x m ≡ outcomeBefore access x m
   -- A payload that fields do not fill, L = 1 among them, or more than 16: 4 now. Before, it was 3 where its first byte is an unknown

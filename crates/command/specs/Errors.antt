@@ -1,11 +1,15 @@
--- Document 01, "Handling one message", and requests 02 and 03: the errors, first that applies; of a field, and of a command as a whole.
+-- Document 01, "Handling one message", and requests 02, 03 and 05: the errors, first that applies; of a field, and of a command as a
+-- whole.
 use mathlib.Core.Bool.{Bool, true, false, _&&_, _||_, not}
 use mathlib.Core.List.{List}
 use mathlib.Core.Option.{Option, none, some}
 use Prim.Native.Nat.{ℕ, _+_}
 use lib.Dec.{eqb, leb, ltb}
 use lib.ListN.{length}
-use Rattle.page.specs.Settings.{allowed, valueSize}
+use Rattle.page.specs.declared.setting.Setting.{Setting}
+use Rattle.page.specs.declared.setting.Stored.{Stored}
+use Rattle.page.specs.Settings.{storable, notHere, valueSize}
+use Rattle.page.specs.Page.{isThere}
 use Rattle.message.specs.Fields.{Field, fieldsOf}
 use Rattle.message.specs.Whole.{refuse}
 use Rattle.command.specs.declared.command.Command.{Command}
@@ -35,15 +39,22 @@ functionRight Ping c = true
 functionRight (About s) c = isFunction (c .function)
 functionRight Unknown c = false
 
--- The value is looked at under function 1 only.
+-- The value is looked at under function 1 only. One that is storable and not usable has an error of its own.
 abbrev pub valueRight : Subject → Command → Bool
 valueRight Ping c = true
-valueRight (About s) c = not (eqb (c .function) 1) || allowed s (valueFor s c)
+valueRight (About s) c = not (eqb (c .function) 1) || storable s (valueFor s c)
 valueRight Unknown c = false
 
--- A field's own error, once its code is known: size, function, value.
+-- Size, function, value.
 unfoldable pub fieldWrong : Subject → Command → Bool
 fieldWrong subject c = not (sizeRight subject c) || not (functionRight subject c) || not (valueRight subject c)
+
+-- "Not on this board": the value sent with function 1; or the page's under function 4, which has nothing to load then. `loaded s` is what
+-- is loaded of s, a value or nothing.
+abbrev pub notOnBoard : Subject → (Setting → Stored) → Command → Bool
+notOnBoard Ping loaded c = false
+notOnBoard (About s) loaded c = eqb (c .function) 1 && notHere s (valueFor s c) || (eqb (c .function) 4 && not (isThere (loaded s)))
+notOnBoard Unknown loaded c = false
 
 -- ---- one field
 
@@ -54,13 +65,14 @@ alters (About s) c = isFunction (c .function) && not (eqb (c .function) 2)
 alters Unknown c = false
 
 -- 3: the code is not one of this type's. 5: functions 1, 3, 4 and 5, where they need a number. 4: size wrong; function not 1 to 5;
--- value not allowed. 0: otherwise.
-unfoldable pub fieldError : Bool → Command → ℕ
-fieldError needsNumber c =
+-- value not allowed, that is not storable. 6: not on this board. 0: otherwise.
+unfoldable pub fieldError : Bool → (Setting → Stored) → Command → ℕ
+fieldError needsNumber loaded c =
     refuse (isUnknown (subjectOf (c .kind) (c .code))) 3
     (refuse (needsNumber && alters (subjectOf (c .kind) (c .code)) c) 5
     (refuse (fieldWrong (subjectOf (c .kind) (c .code)) c) 4
-    0))
+    (refuse (notOnBoard (subjectOf (c .kind) (c .code)) loaded c) 6
+    0)))
 
 -- ---- a command as a whole
 

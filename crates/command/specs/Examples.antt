@@ -26,23 +26,23 @@ pub record Line : Type 0 where
 
 -- ---- the table
 
-abbrev good : ℕ → List ℕ → Received
+abbrev pub good : ℕ → List ℕ → Received
 good kind payload = record { good = true; kind = kind; payload = payload }
 
 abbrev damaged : ℕ → List ℕ → Received
 damaged kind payload = record { good = false; kind = kind; payload = payload }
 
-abbrev numbered : ℕ → ℕ → List ℕ → Received
+abbrev pub numbered : ℕ → ℕ → List ℕ → Received
 numbered n kind fields = good 0x7C (wordBytes n ++ (kind ∷ fields))
 
-abbrev row : ℕ → ℕ → List ℕ → List ℕ
+abbrev pub row : ℕ → ℕ → List ℕ → List ℕ
 row echo error rest = 0x80 ∷ 0x02 ∷ echo ∷ error ∷ rest
 
 -- Fields of a setting's code: functions 2 to 5, and function 1 with a value of one byte.
-abbrev field : ℕ → ℕ → List ℕ → List ℕ
+abbrev pub field : ℕ → ℕ → List ℕ → List ℕ
 field code function rest = code ∷ 0x01 ∷ function ∷ rest
 
-abbrev use1 : ℕ → ℕ → List ℕ → List ℕ
+abbrev pub use1 : ℕ → ℕ → List ℕ → List ℕ
 use1 code value rest = code ∷ 0x02 ∷ 0x01 ∷ value ∷ rest
 
 abbrev baud : ℕ → Settings
@@ -114,7 +114,7 @@ examples =
 
 -- ---- what the rules give
 
-abbrev linesFrom : State (List ℕ) → List Line → List Line
+abbrev pub linesFrom : State (List ℕ) → List Line → List Line
 linesFrom x [] = []
 linesFrom x (l ∷ ls) =
     let o : Outcome (List ℕ) = messageOutcome pageAccess (l .port) x (l .message) in

@@ -7,6 +7,8 @@ pub mod Examples
 pub mod Handle
 pub mod Numbered
 pub mod Numbers
+pub mod Older
+pub mod OnBoard
 pub mod Outcome
 pub mod Place
 pub mod Puts

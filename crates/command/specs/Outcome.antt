@@ -1,4 +1,4 @@
--- Document 01, "Handling one message", and requests 02 and 03: what a field and a row of fields leave; and the reply. Over any keeping of
+-- Document 01, "Handling one message", and requests 02, 03 and 05: what a field and a row of fields leave; and the reply. Over any keeping of
 -- the page's values: the board keeps a page of 64 bytes, the plain reckoning the values under codes.
 use mathlib.Core.Bool.{Bool, true, false, _&&_, _||_}
 use mathlib.Core.List.{List, [], _∷_, _++_}
@@ -26,10 +26,10 @@ pub record Received : Type 0 where
 unfoldable pub receivedOf : Bool → List ℕ → Received
 receivedOf good m = record { good = good; kind = typeOf m; payload = payloadOf m }
 
--- How the page's values are kept: the value that is loaded of a setting, the page with a value saved, the last number accepted, and
--- the page with a number put in.
+-- How the page's values are kept: what is loaded of a setting, a value or nothing; the page with a value saved; the last number
+-- accepted; and the page with a number put in.
 pub record Access (P : Type 0) : Type 0 where
-  pub loaded : P → Setting → ℕ
+  pub loaded : P → Setting → Stored
   pub save : P → Setting → ℕ → P
   pub lastNumber : P → Stored
   pub putNumber : P → ℕ → P
@@ -103,7 +103,7 @@ module _ {P : Type 0} (access : Access P) where
 
   -- One field handled.
   unfoldable pub fieldOutcome : Bool → State P → Command → Outcome P
-  fieldOutcome guarded x c = fieldOn (fieldError (needsNumber guarded (x .page)) c) x c
+  fieldOutcome guarded x c = fieldOn (fieldError (needsNumber guarded (x .page)) (access .loaded (x .page)) c) x c
 
   -- The fields in order, each on what those before it left.
   unfoldable pub fieldsOutcome : Bool → State P → List Command → Outcome P

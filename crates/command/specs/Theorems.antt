@@ -7,18 +7,17 @@ use mathlib.Core.Option.{some}
 use Prim.Native.Nat.{ℕ, _+_, _≤_, _<_}
 use lib.ListN.{length, drop}
 use Rattle.page.specs.declared.setting.Setting.{Setting}
-use Rattle.page.specs.Settings.{allowed, factoryValue, Key, keyAllowed}
-use Rattle.page.specs.Page.{storedIn}
-use Rattle.page.specs.Lookup.{valuesIn}
+use Rattle.page.specs.declared.setting.Stored.{Stored}
+use Rattle.page.specs.declared.setting.Stored.the-variants.{Value}
+use Rattle.page.specs.Settings.{usable, Key, keyStorable}
 use Rattle.page.specs.Sound.{sound, putPage, savedPage}
-use Rattle.page.specs.Theorems.{valueOr}
 use Rattle.message.specs.Message.{lengthOf}
 use Rattle.command.specs.declared.settings.Settings.{Settings}
 use Rattle.command.specs.declared.command.Command.{Command}
 use Rattle.command.specs.declared.command.Subject.the-variants.{Setting as About}
 use Rattle.command.specs.Command.{subjectOf}
 use Rattle.command.specs.Errors.{fieldError}
-use Rattle.command.specs.Effects.{workingValue, effectOf, settingsAllowed}
+use Rattle.command.specs.Effects.{workingValue, effectOf, settingsUsable}
 use Rattle.command.specs.Outcome.{State, Received, receivedOf, replyOf, needsNumber, fieldOutcome}
 use Rattle.command.specs.Handle.{messageOutcome}
 use Rattle.command.specs.Puts.{putsOn, isEmpty, messagePuts}
@@ -26,38 +25,29 @@ use Rattle.command.specs.Answer.{loadedFrom, putOn, pageAccess, replyRoo
 
 -- ---- one field
 
--- It keeps the working values allowed, whatever the command, if what is loaded is allowed. Proof: Keeps `keeps-allowed`.
-abbrev pub KeepsAllowed : Type 0
-KeepsAllowed =
-    (needs : Bool) (loaded : Setting → ℕ) (w : Settings) (c : Command) → ((s : Setting) → allowed s (loaded s) ≡ true)
-    → settingsAllowed w ≡ true → settingsAllowed (effectOf needs loaded w c .settings) ≡ true
+-- It keeps the working values usable, whatever the command, if what is loaded is usable or nothing. Proof: Keeps `keeps-usable`.
+abbrev pub KeepsUsable : Type 0
+KeepsUsable =
+    (needs : Bool) (loaded : Setting → Stored) (w : Settings) (c : Command) → ((s : Setting) (x : ℕ) → loaded s ≡ Value x → usable s x ≡ true)
+    → settingsUsable w ≡ true → settingsUsable (effectOf needs loaded w c .settings) ≡ true
 
 -- A save of a setting is accepted where there is no error, the command is about that setting and its function is 3, and
 -- nowhere else.
-pub record SaveOf (needs : Bool) (c : Command) (s : Setting) : Type 0 where
-  pub no-error : fieldError needs c ≡ 0
+pub record SaveOf (needs : Bool) (loaded : Setting → Stored) (c : Command) (s : Setting) : Type 0 where
+  pub no-error : fieldError needs loaded c ≡ 0
   pub about : subjectOf (c .kind) (c .code) ≡ About s
   pub function : c .function ≡ 3
 
 -- Proofs: Keeps `saves-only`, `saves-then`.
 abbrev pub SavesOnly : Type 0
-SavesOnly = (needs : Bool) (loaded : Setting → ℕ) (w : Settings) (c : Command) (s : Setting) → effectOf needs loaded w c .saves ≡ some s → SaveOf needs c s
+SavesOnly = (needs : Bool) (loaded : Setting → Stored) (w : Settings) (c : Command) (s : Setting) → effectOf needs loaded w c .saves ≡ some s → SaveOf needs loaded c s
 
 abbrev pub SavesThen : Type 0
-SavesThen = (needs : Bool) (loaded : Setting → ℕ) (w : Settings) (c : Command) (s : Setting) → SaveOf needs c s → effectOf needs loaded w c .saves ≡ some s
+SavesThen = (needs : Bool) (loaded : Setting → Stored) (w : Settings) (c : Command) (s : Setting) → SaveOf needs loaded c s → effectOf needs loaded w c .saves ≡ some s
 
 -- ---- the board's page
 
--- What is loaded from a sound page is the value that it holds, or the factory value where it has none, and it is allowed.
-pub record LoadedValue (page : List ℕ) (s : Setting) : Type 0 where
-  pub value : loadedFrom page s ≡ valueOr (storedIn (valuesIn page) s) (factoryValue s)
-  pub value-allowed : allowed s (loadedFrom page s) ≡ true
-
--- Proof: Pages `loaded-stored`.
-abbrev pub LoadsStored : Type 0
-LoadsStored = (page : List ℕ) (s : Setting) → sound page ≡ true → LoadedValue page s
-
--- What is put in on a sound page is there, the other entries are kept, and the page stays sound: an allowed value, or a number of four
+-- What is put in on a sound page is there, the other entries are kept, and the page stays sound: a storable value, or a number of four
 -- bytes.
 pub record PageKept (page : List ℕ) (k : Key) (x : ℕ) : Type 0 where
   pub put-page : putOn page k x ≡ putPage page k x
@@ -65,19 +55,19 @@ pub record PageKept (page : List ℕ) (k : Key) (x : ℕ) : Type 0 where
 
 -- Proof: Pages `page-changes`.
 abbrev pub PageChanges : Type 0
-PageChanges = (page : List ℕ) (k : Key) (x : ℕ) → sound page ≡ true → keyAllowed k x ≡ true → PageKept page k x
+PageChanges = (page : List ℕ) (k : Key) (x : ℕ) → sound page ≡ true → keyStorable k x ≡ true → PageKept page k x
 
--- One field on a sound page with allowed settings: an accepted save is marked and puts the working value in, and nothing else is
+-- One field on a sound page with usable settings: an accepted save is marked and puts the working value in, and nothing else is
 -- marked or changes the page.
 pub record FieldKept (guarded : Bool) (x : State (List ℕ)) (c : Command) : Type 0 where
-  pub saved : (s : Setting) → SaveOf (needsNumber pageAccess guarded (x .page)) c s
+  pub saved : (s : Setting) → SaveOf (needsNumber pageAccess guarded (x .page)) (loadedFrom (x .page)) c s
       → (fieldOutcome pageAccess guarded x c .saved ≡ true) × (fieldOutcome pageAccess guarded x c .next .page ≡ savedPage (x .page) s (workingValue (x .settings) s))
-  pub unsaved : ((s : Setting) → SaveOf (needsNumber pageAccess guarded (x .page)) c s → ⊥)
+  pub unsaved : ((s : Setting) → SaveOf (needsNumber pageAccess guarded (x .page)) (loadedFrom (x .page)) c s → ⊥)
       → (fieldOutcome pageAccess guarded x c .saved ≡ false) × (fieldOutcome pageAccess guarded x c .next .page ≡ x .page)
 
 -- Proof: Pages `field-keeps`.
 abbrev pub FieldKeeps : Type 0
-FieldKeeps = (guarded : Bool) (x : State (List ℕ)) (c : Command) → sound (x .page) ≡ true → settingsAllowed (x .settings) ≡ true → FieldKept guarded x c
+FieldKeeps = (guarded : Bool) (x : State (List ℕ)) (c : Command) → sound (x .page) ≡ true → settingsUsable (x .settings) ≡ true → FieldKept guarded x c
 
 -- ---- the answer to a message
 
@@ -91,10 +81,10 @@ ReplyWhole =
     (port : ℕ) (m : Received) (w : Settings) (room page : List ℕ) → replyRoom ≤ length room
     → answering port m w room page .room ≡ replyTo port m w page ++ drop (length (replyTo port m w page)) room
 
--- Answering a message on a sound page with allowed settings keeps both so. The page changes on accepted saves and fresh numbers, and on
+-- Answering a message on a sound page with usable settings keeps both so. The page changes on accepted saves and fresh numbers, and on
 -- nothing else: exactly these values are put in, and the mark is set where there is one. Proof: Pages `answer-keeps`.
 pub record KeptBy (port : ℕ) (m : Received) (w : Settings) (room page : List ℕ) : Type 0 where
-  pub settings-allowed : settingsAllowed (answering port m w room page .answer .settings) ≡ true
+  pub settings-usable : settingsUsable (answering port m w room page .answer .settings) ≡ true
   pub page-sound : sound (answering port m w room page .page) ≡ true
   pub page-after : replyRoom ≤ length room → answering port m w room page .page ≡ putsOn page (messagePuts port (record { settings = w; page = page }) m)
   pub mark : replyRoom ≤ length room → answering port m w room page .answer .saved ≡ not (isEmpty (messagePuts port (record { settings = w; page = page }) m))
@@ -104,7 +94,7 @@ pub record KeptBy (port : ℕ) (m : Received) (w : Settings) (room page : List �
 
 abbrev pub AnswerKeeps : Type 0
 AnswerKeeps =
-    (port : ℕ) (m : Received) (w : Settings) (room page : List ℕ) → sound page ≡ true → settingsAllowed w ≡ true → KeptBy port m w room page
+    (port : ℕ) (m : Received) (w : Settings) (room page : List ℕ) → sound page ≡ true → settingsUsable w ≡ true → KeptBy port m w room page
 
 -- A message is handled by its own bytes: what follows it changes nothing. Proof: Pages `own-bytes`.
 abbrev pub OwnBytes : Type 0

@@ -1,10 +1,11 @@
 // The answer to a message: the reply, and what becomes of the settings and the page.
 ghost use mathlib.Core.Path.{_≡_};
-ghost use mathlib.Core.Bool.{false, _&&_, not};
+ghost use mathlib.Core.Bool.{true, false, _&&_, not};
 ghost use mathlib.Core.List.{_++_};
 ghost use Prim.Native.Nat.{_+_, _-_, _≤_, _<_};
 ghost use lib.Dec.{eqb};
 ghost use lib.ListN.{length, take, drop};
+ghost use Rattle.page.specs.Page.{isThere};
 ghost use Rattle.message.specs.Fields.{fieldsOf};
 ghost use Rattle.message.specs.Write.{sealing};
 ghost use Rattle.command.specs.Answer.{loadedFrom, savedOn, pageAccess, answering};
@@ -30,7 +31,7 @@ use crate::place::Progress;
 use crate::place::put_row;
 use crate::place::put_value;
 use crate::settings::Settings;
-use crate::settings::loaded_from;
+use crate::settings::looked_up;
 use message::byte_over;
 use page::Setting;
 
@@ -41,16 +42,17 @@ pub struct Answer {
     pub settings: Settings,
 }
 
-// The settings after an accepted function: 1 takes the value sent, 4 the loaded and 5 the factory's, the others none.
+// The settings after an accepted function: 1 takes the value sent, 4 the loaded and 5 the factory's, the others none. Function 4 is accepted
+// where a value is loaded, so that it is not tested again.
 fn settings_after(function: u8, setting: Setting, sent: u32, w: Settings, page: &[u8]) -> Settings
-    requires { ⌜ Fits setting sent ⌝ }
+    requires { ⌜ Fits setting sent × (function ≡ 4 → isThere (loadedFrom (now page) setting) ≡ true) ⌝ }
     ensures { λ r. ⌜ r ≡ functionEffect function (loadedFrom (now (page .entry))) w setting sent .settings ⌝ }
 {
     if function == 1 {
         return w.with(setting, sent);
     }
     if function == 4 {
-        return w.with(setting, loaded_from(page, setting));
+        return w.with(setting, looked_up(page, setting));
     }
     if function < 5 {
         return w;
@@ -60,7 +62,7 @@ fn settings_after(function: u8, setting: Setting, sent: u32, w: Settings, page: 
 
 // An accepted command about a setting, whose field 80 stands in the room.
 fn obey(c: Command, setting: Setting, p: Progress, room: &mut [u8], page: &mut [u8]) -> Progress
-    requires { ⌜ p .end + 6 ≤ length (now room) ⌝ }
+    requires { ⌜ (p .end + 6 ≤ length (now room)) × (c .function ≡ 4 → isThere (loadedFrom (now page) setting) ≡ true) ⌝ }
     ensures { λ r. ⌜ record { done = r; room = now (room .exit); page = now (page .exit) } ≡ placed p (effectOutcome savedOn (functionEffect (c .function) (loadedFrom (now (page .entry))) (p .settings) setting (valueFor setting c)) (stateOf p (now (page .entry)))) (now (room .entry)) ⌝ }
 {
     let function = c.function;
@@ -187,9 +189,9 @@ fn answer_command(
     requires { ⌜ (from ≤ to) × (to < 65536) × (to ≤ from + (length (now held) + length (now chunk) - from)) × (start .end + 160 ≤ length (now room)) ⌝ }
     ensures { λ r. ⌜ record { done = r; room = now (room .exit); page = now (page .exit) } ≡ placed start (commandOutcome pageAccess guarded (stateOf start (now (page .entry))) kind (drop from (take to (now (held .entry) ++ now (chunk .entry))))) (now (room .entry)) ⌝ }
 {
-    let error = command_error(held, chunk, kind, from, to);
-    if error != 0 {
-        return put_row(echo_of(held, chunk, from, to), error, start, room);
+    let whole_error = command_error(held, chunk, kind, from, to);
+    if whole_error != 0 {
+        return put_row(echo_of(held, chunk, from, to), whole_error, start, room);
     }
     answer_fields(guarded, held, chunk, kind, from, to, start, room, page)
 }

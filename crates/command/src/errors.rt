@@ -5,14 +5,17 @@ ghost use lib.Dec.{eqb};
 ghost use Rattle.command.specs.Command.{valueFor};
 ghost use Rattle.command.specs.Effects.{Fits};
 ghost use Rattle.page.specs.Page.{isThere};
-ghost use Rattle.command.specs.Answer.{numberOn, pageAccess};
-ghost use Rattle.command.specs.Errors.{isUnknown, isFunction, fieldWrong, alters, isKind, fieldError};
+ghost use Rattle.page.specs.Settings.{storable, notHere};
+ghost use Rattle.message.specs.Whole.{refuse};
+ghost use Rattle.command.specs.Answer.{loadedFrom, numberOn, pageAccess};
+ghost use Rattle.command.specs.Errors.{isUnknown, isFunction, sizeRight, functionRight, fieldWrong, notOnBoard, alters, isKind, fieldError};
 ghost use Rattle.command.specs.Outcome.{needsNumber};
 ghost use Rattle.command.specs.declared.command.Subject.the-variants.{Setting as About};
 use crate::command::Command;
 use crate::command::Subject;
 use crate::command::count_of;
 use crate::command::subject_of;
+use crate::settings::looked_up;
 use crate::settings::wide;
 use page::Setting;
 use page::Stored;
@@ -40,9 +43,30 @@ fn size_right(full: usize, size: usize, function: u8) -> bool
     function != 1
 }
 
-// The tests of a setting's own field: size, function, value.
-fn setting_wrong(setting: Setting, c: Command) -> bool
-    ensures { λ r. ⌜ r ≡ fieldWrong (About setting) c ⌝ }
+// The error of a value sent with function 1. Most are usable, so that is tested first.
+fn value_error(setting: Setting, value: u32) -> u8
+    ensures { λ r. ⌜ r ≡ refuse (not (storable setting value)) 4 (refuse (notHere setting value) 6 0) ⌝ }
+{
+    if page::usable(setting, value) {
+        return 0;
+    }
+    if page::storable(setting, value) { 6 } else { 4 }
+}
+
+// The error of function 4, by what is loaded.
+fn load_error(setting: Setting, page: &[u8]) -> u8
+    ensures { λ r. ⌜ r ≡ refuse (not (isThere (loadedFrom (now (page .entry)) setting))) 6 0 ⌝ }
+{
+    if page::usable(setting, looked_up(page, setting)) {
+        0
+    } else {
+        6
+    }
+}
+
+// Whether the size or the function of a setting's field is wrong.
+fn is_malformed(setting: Setting, c: Command) -> bool
+    ensures { λ r. ⌜ r ≡ not (sizeRight (About setting) c) || not (functionRight (About setting) c) ⌝ }
 {
     let function = c.function;
     if !size_right(1 + page::value_size(setting), count_of(c.size), function) {
@@ -51,22 +75,40 @@ fn setting_wrong(setting: Setting, c: Command) -> bool
     if function < 1 {
         return true;
     }
-    if 5 < function {
-        return true;
-    }
-    if function != 1 {
-        return false;
-    }
-    !page::allowed(setting, value_for(setting, c))
+    5 < function
 }
 
-fn field_wrong(subject: Subject, c: Command) -> bool
-    ensures { λ r. ⌜ r ≡ fieldWrong subject c ⌝ }
+// The error of a setting's own field: 4 by its size or its function, then 4 or 6 by the value that is sent or loaded.
+fn setting_error(setting: Setting, c: Command, page: &[u8]) -> u8
+    ensures { λ r. ⌜ r ≡ refuse (fieldWrong (About setting) c) 4 (refuse (notOnBoard (About setting) (loadedFrom (now (page .entry))) c) 6 0) ⌝ }
+{
+    if is_malformed(setting, c) {
+        return 4;
+    }
+    if c.function == 1 {
+        return value_error(setting, value_for(setting, c));
+    }
+    if c.function == 4 {
+        return load_error(setting, page);
+    }
+    0
+}
+
+// Ping has size 0.
+fn ping_error(size: u8) -> u8
+    ensures { λ r. ⌜ r ≡ refuse (not (eqb size 0)) 4 0 ⌝ }
+{
+    if size == 0 { 0 } else { 4 }
+}
+
+// The error of a field whose code is known.
+fn own_error(subject: Subject, c: Command, page: &[u8]) -> u8
+    ensures { λ r. ⌜ r ≡ refuse (fieldWrong subject c) 4 (refuse (notOnBoard subject (loadedFrom (now (page .entry))) c) 6 0) ⌝ }
 {
     match subject {
-        Subject::Ping => c.size != 0,
-        Subject::Setting(s) => setting_wrong(s, c),
-        Subject::Unknown => true,
+        Subject::Ping => ping_error(c.size),
+        Subject::Setting(s) => setting_error(s, c, page),
+        Subject::Unknown => 4,
     }
 }
 
@@ -129,7 +171,7 @@ fn number_missing(guarded: bool, subject: Subject, c: Command, page: &[u8]) -> b
 
 // The error of one field.
 pub(crate) fn field_error(guarded: bool, c: Command, page: &[u8]) -> u8
-    ensures { λ r. ⌜ r ≡ fieldError (needsNumber pageAccess guarded (now (page .entry))) c ⌝ }
+    ensures { λ r. ⌜ r ≡ fieldError (needsNumber pageAccess guarded (now (page .entry))) (loadedFrom (now (page .entry))) c ⌝ }
 {
     let subject = subject_of(c.kind, c.code);
     if is_unknown(subject) {
@@ -138,7 +180,7 @@ pub(crate) fn field_error(guarded: bool, c: Command, page: &[u8]) -> u8
     if number_missing(guarded, subject, c, page) {
         return 5;
     }
-    if field_wrong(subject, c) { 4 } else { 0 }
+    own_error(subject, c, page)
 }
 
 // The type is 01 or 02.

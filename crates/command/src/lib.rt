@@ -14,5 +14,5 @@ pub use command::Command;
 pub use command::Subject;
 pub use command::subject_of;
 pub use settings::Settings;
-pub use settings::settings_allowed;
 pub use settings::settings_from;
+pub use settings::settings_usable;

@@ -2,8 +2,10 @@
 ghost use mathlib.Core.Path.{_≡_};
 ghost use Prim.Native.Nat.{_<_};
 ghost use lib.ListN.{getD};
-ghost use Rattle.command.specs.Answer.{loadedFrom, settingsFrom};
-ghost use Rattle.command.specs.Effects.{workingValue, withWorking, Fits, settingsAllowed};
+ghost use Rattle.page.specs.Loading.{valueOr};
+ghost use Rattle.page.specs.Settings.{factoryValue};
+ghost use Rattle.command.specs.Answer.{lookedUp, loadedFrom, settingsFrom};
+ghost use Rattle.command.specs.Effects.{workingValue, withWorking, Fits, settingsUsable};
 use page::Entry;
 use page::Setting;
 
@@ -65,10 +67,10 @@ fn first_byte(s: &[u8]) -> u8
     if 0 < s.len() { s[0] } else { 0 }
 }
 
-// What is loaded of a setting: the body on the page if it has the entry, else the factory's value. No factory page is made for it:
-// that would be 64 bytes of stack. The page is handed on as a part, all of it, for the same reason as in page::check_page.
-pub(crate) fn loaded_from(page: &[u8], setting: Setting) -> u32
-    ensures { λ r. ⌜ (r ≡ loadedFrom (now (page .entry)) setting) × Fits setting r ⌝ }
+// The value of a setting in the body on the page if it has the entry, else the factory's value. No factory page is made for it: that
+// would be 64 bytes of stack. The page is handed on as a part, all of it, for the same reason as in page::check_page.
+pub(crate) fn looked_up(page: &[u8], setting: Setting) -> u32
+    ensures { λ r. ⌜ (r ≡ lookedUp (now (page .entry)) setting) × Fits setting r ⌝ }
 {
     let whole = &page[0..];
     let entry = page::find_entry(whole, page::code_of(setting));
@@ -83,13 +85,26 @@ pub(crate) fn loaded_from(page: &[u8], setting: Setting) -> u32
     }
 }
 
+// The value that starting sets: what is loaded, or the factory's where that is nothing, since the value is not usable on this board. Where
+// a value is loaded is tested by each that loads one, so that `looked_up` answers in a register.
+fn start_value(page: &[u8], setting: Setting) -> u32
+    ensures { λ r. ⌜ (r ≡ valueOr (loadedFrom (now (page .entry)) setting) (factoryValue setting)) × Fits setting r ⌝ }
+{
+    let value = looked_up(page, setting);
+    if page::usable(setting, value) {
+        value
+    } else {
+        page::factory_value(setting)
+    }
+}
+
 // The settings as starting sets them.
 pub fn settings_from(page: &[u8]) -> Settings
     ensures { λ r. ⌜ r ≡ settingsFrom (now (page .entry)) ⌝ }
 {
-    let baud = loaded_from(page, Setting::Baud);
-    let accelerometer = loaded_from(page, Setting::Accelerometer);
-    let gyroscope = loaded_from(page, Setting::Gyroscope);
+    let baud = start_value(page, Setting::Baud);
+    let accelerometer = start_value(page, Setting::Accelerometer);
+    let gyroscope = start_value(page, Setting::Gyroscope);
     Settings {
         baud,
         accelerometer: accelerometer as u8,
@@ -97,15 +112,15 @@ pub fn settings_from(page: &[u8]) -> Settings
     }
 }
 
-// Whether each working value is allowed.
-pub fn settings_allowed(w: Settings) -> bool
-    ensures { λ r. ⌜ r ≡ settingsAllowed w ⌝ }
+// Whether each working value is usable.
+pub fn settings_usable(w: Settings) -> bool
+    ensures { λ r. ⌜ r ≡ settingsUsable w ⌝ }
 {
-    if !page::allowed(Setting::Baud, w.baud) {
+    if !page::usable(Setting::Baud, w.baud) {
         return false;
     }
-    if !page::allowed(Setting::Accelerometer, wide(w.accelerometer)) {
+    if !page::usable(Setting::Accelerometer, wide(w.accelerometer)) {
         return false;
     }
-    page::allowed(Setting::Gyroscope, wide(w.gyroscope))
+    page::usable(Setting::Gyroscope, wide(w.gyroscope))
 }

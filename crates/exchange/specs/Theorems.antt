@@ -13,7 +13,7 @@ use Rattle.command.specs.Outcome.{State, Outcome, rowOutcome, effectOutcome, ne
 use Rattle.command.specs.Handle.{marked, spent}
 use Rattle.command.specs.Answer.{loadedFrom, savedOn, numberOn, pageAccess, answerWith}
 use Rattle.client.specs.Writer.{codeSubject, kindFor, acceptable, commandMessage, numberedPayload, numberedMessage, Asked}
-use Rattle.client.specs.Commands.{effectFor, askedOutcomes, askedFields, allRight}
+use Rattle.client.specs.Commands.{errorFor, effectFor, askedOutcomes, askedFields, allRight}
 use Rattle.board.specs.declared.board.Board.{Board}
 use Rattle.board.specs.Feed.{Feeding, feedOn, feedOf}
 use Rattle.board.specs.Alone.{Ready, answeredStep}
@@ -26,9 +26,9 @@ stateOf b page = record { settings = b .settings; page = page }
 abbrev pub answeredWith : ℕ → Board → List ℕ → ℕ → List ℕ → Outcome (List ℕ) → Feeding
 answeredWith port b room kind m o = feedOn (answeredStep m (answerWith kind o room)) port b
 
--- A message of 1 to 16 fields, each written for what the board accepts, and fed to a port that holds nothing, is answered at once:
--- without error, and with exactly the effects that are asked for, in order. On port 0 as long as the page has no number. Proof: Calls
--- `call-obeys`.
+-- A message of 1 to 16 fields, each written for what the board accepts, and fed to a port that holds nothing, is answered at once: without
+-- error, but for function 4 on a page that holds a value that is not usable on this board (6), and with exactly the effects that are
+-- asked for, in order. On port 0 as long as the page has no number. Proof: Calls `call-obeys`.
 abbrev pub CallObeys : Type 0
 CallObeys =
     (port : ℕ) (b : Board) (room page : List ℕ) (kind : ℕ) (asks : List Asked) → Ready port b room page
@@ -39,7 +39,8 @@ CallObeys =
 -- So is what the command writer writes, with exactly the effect of its code, function and value. Proof: Calls `writer-obeyed`.
 abbrev pub writtenOutcome : State (List ℕ) → ℕ → ℕ → ℕ → Outcome (List ℕ)
 writtenOutcome x code function value =
-    rowOutcome code 0 (effectOutcome savedOn (effectFor (codeSubject code) (loadedFrom (x .page)) (x .settings) function value) x)
+    rowOutcome code (errorFor (codeSubject code) (loadedFrom (x .page)) function)
+    (effectOutcome savedOn (effectFor (codeSubject code) (loadedFrom (x .page)) (x .settings) function value) x)
 
 abbrev pub WriterObeyed : Type 0
 WriterObeyed =

@@ -101,7 +101,7 @@ module _ {front : List ℕ → Verdict} {mostHeld : ℕ} (C : Cutting front most
 
   -- A state that is related to the reckoning's passes the program's test 17.
   fit : (s : State Ledger X) (t : State (List ℕ) W) → Related (Tracks C) L s t
-      → ltb mostHeld (length (t .port0)) || ltb mostHeld (length (t .port1)) || tests (t .values) .disallowed ≡ false
+      → ltb mostHeld (length (t .port0)) || ltb mostHeld (length (t .port1)) || tests (t .values) .unusable ≡ false
   fit s t r =
       cc (
         le-ltb mostHeld (length (t .port0)) (r .port0 .few),

@@ -14,13 +14,13 @@ use Rattle.history.specs.Reckoning.{Outcome}
 
 -- What the program tests of what it has stored: its working values (17), the page's length (19), the page (20).
 pub record Tests : Type 0 where
-  pub disallowed : Bool
+  pub unusable : Bool
   pub wrongLength : Bool
   pub unsound : Bool
 
 -- No test refuses.
 abbrev pub passing : Tests
-passing = record { disallowed = false; wrongLength = false; unsound = false }
+passing = record { unusable = false; wrongLength = false; unsound = false }
 
 module _ (front : List ℕ → Verdict) {Stored : Type 0} (handle : ℕ → Stored → Message → Outcome Stored) where
   -- An accepted feed of port p by where the seek through the held bytes and the chunk ends. "It takes a byte from the chunk
@@ -57,12 +57,12 @@ module _ (front : List ℕ → Verdict) {Stored : Type 0} (handle : ℕ → Stor
   unfoldable pub heldFeed : ℕ → List ℕ → Stored → List ℕ → Turn (List ℕ) Stored
   heldFeed p held w chunk = heldOn (seek front (held ++ chunk)) p held w chunk
 
-  -- "A feed 16 to 20 .. Order as listed": port not 0 or 1; a port holds over `mostHeld`, or a working value is not allowed;
+  -- "A feed 16 to 20 .. Order as listed": port not 0 or 1; a port holds over `mostHeld`, or a working value is not usable;
   -- room too small; page of a wrong length; page neither blank nor sound. `room` is the least length of a room.
   unfoldable pub heldStep : ℕ → ℕ → (Stored → Tests) → State (List ℕ) Stored → Feed → Step (State (List ℕ) Stored)
   heldStep mostHeld room tests s f =
       refuse (ltb 1 (f .port)) 16 s
-      (refuse (ltb mostHeld (length (s .port0)) || ltb mostHeld (length (s .port1)) || tests (s .values) .disallowed) 17 s
+      (refuse (ltb mostHeld (length (s .port0)) || ltb mostHeld (length (s .port1)) || tests (s .values) .unusable) 17 s
       (refuse (ltb (f .room) room) 18 s
       (refuse (tests (s .values) .wrongLength) 19 s
       (refuse (tests (s .values) .unsound) 20 s

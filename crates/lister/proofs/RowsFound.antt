@@ -8,6 +8,7 @@ use lib.Dec.{ltb}
 use lib.ListN.{length}
 use borrow.Author.Tests.{eq-eqb, ne-eqb, le-ltb}
 use Rattle.page.specs.declared.setting.Setting.{Setting}
+use Rattle.page.specs.declared.setting.Stored.{Stored}
 use Rattle.page.specs.declared.setting.Setting.the-variants.{Baud, Accelerometer, Gyroscope}
 use Rattle.listing.specs.Rows.{rowSize}
 use Rattle.command.specs.declared.settings.Settings.{Settings}
@@ -31,7 +32,7 @@ report-value Baud x = (λ e. omega arith, refl)
 report-value Accelerometer x = (λ e. omega arith, refl)
 report-value Gyroscope x = (λ e. omega arith, refl)
 
-report-function : (f : ℕ) (loaded : Setting → ℕ) (w : Settings) (s : Setting) (x : ℕ) → Report (functionEffect f loaded w s x .report)
+report-function : (f : ℕ) (loaded : Setting → Stored) (w : Settings) (s : Setting) (x : ℕ) → Report (functionEffect f loaded w s x .report)
 report-function zero loaded w s x = tt
 report-function (suc zero) loaded w s x = tt
 report-function (suc (suc zero)) loaded w s x = report-value s (workingValue w s)
@@ -39,14 +40,14 @@ report-function (suc (suc (suc zero))) loaded w s x = tt
 report-function (suc (suc (suc (suc zero)))) loaded w s x = tt
 report-function (suc (suc (suc (suc (suc f))))) loaded w s x = tt
 
-report-field : (subject : Subject) (loaded : Setting → ℕ) (w : Settings) (c : Command) → Report (fieldEffect subject loaded w c .report)
+report-field : (subject : Subject) (loaded : Setting → Stored) (w : Settings) (c : Command) → Report (fieldEffect subject loaded w c .report)
 report-field Ping loaded w c = tt
 report-field (About s) loaded w c = report-function (c .function) loaded w s (valueFor s c)
 report-field Unknown loaded w c = tt
 
-report-effect : (needs : Bool) (loaded : Setting → ℕ) (w : Settings) (c : Command) → Report (effectOf needs loaded w c .report)
+report-effect : (needs : Bool) (loaded : Setting → Stored) (w : Settings) (c : Command) → Report (effectOf needs loaded w c .report)
 unfolding effectOf
-report-effect needs loaded w c = go (fieldError needs c)
+report-effect needs loaded w c = go (fieldError needs loaded c)
   where
     go : (n : ℕ) → Report (effectOn n (fieldEffect (subjectOf (c .kind) (c .code)) loaded w c) w .report)
     go zero = report-field (subjectOf (c .kind) (c .code)) loaded w c
@@ -67,9 +68,9 @@ module _ (P : Type 0) (access : Access P) (guarded : Bool) where
   first x c rest a =
       let needs : Bool = needsNumber access guarded (x .page) in
       let report : List ℕ = effectOf needs (access .loaded (x .page)) (x .settings) c .report in
-      let s : 4 + length report ≡ length (replyRow (c .code) (fieldError needs c) report) = omega arith in
+      let s : 4 + length report ≡ length (replyRow (c .code) (fieldError needs (access .loaded (x .page)) c) report) = omega arith in
       record {
-        size = rw s at (row-size (c .code) (fieldError needs c) report rest (report-effect needs (access .loaded (x .page)) (x .settings) c) a);
+        size = rw s at (row-size (c .code) (fieldError needs (access .loaded (x .page)) c) report rest (report-effect needs (access .loaded (x .page)) (x .settings) c) a);
         echo = refl;
         error = refl;
       }

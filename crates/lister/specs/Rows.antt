@@ -19,7 +19,7 @@ AnotherRow (b ∷ bs) = b ≡ 0x80
 pub record RowFound {P : Type 0} (access : Access P) (guarded : Bool) (x : State P) (c : Command) (rest : List ℕ) : Type 0 where
   pub size : rowSize (fieldOutcome access guarded x c .rows ++ rest) ≡ length (fieldOutcome access guarded x c .rows)
   pub echo : getD (fieldOutcome access guarded x c .rows ++ rest) 2 0 ≡ c .code
-  pub error : getD (fieldOutcome access guarded x c .rows ++ rest) 3 0 ≡ fieldError (needsNumber access guarded (x .page)) c
+  pub error : getD (fieldOutcome access guarded x c .rows ++ rest) 3 0 ≡ fieldError (needsNumber access guarded (x .page)) (access .loaded (x .page)) c
 
 -- And what stands behind it, the rows of the fields that follow, begins with a row. Proof: RowsFound `rows-found`.
 pub record RowsFound : Type 1 where

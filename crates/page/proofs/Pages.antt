@@ -1,4 +1,4 @@
--- What a page holds: a writing is 64 bytes and is read back, and the sound pages are the writings of allowed values.
+-- What a page holds: a writing is 64 bytes and is read back, and the sound pages are the writings of storable values.
 use Prim.Native.Nat.{ℕ}
 use native.Mathlib.Omega.{arith}
 use mathlib.Core.Path.{_≡_, refl, ap, _∙_}
@@ -14,10 +14,11 @@ use Rattle.page.specs.declared.setting.Setting.the-variants.{Baud, Accel
 use Rattle.page.specs.declared.setting.Stored.{Stored}
 use Rattle.page.specs.declared.setting.Stored.the-variants.{Absent, Value}
 use Rattle.page.specs.declared.setting.Values.{Values}
-use Rattle.page.specs.Settings.{codeOf, someOf, allowedValues, allowed, pageValues, pageAllowed, valueBytes, factoryValue, Key, valueOf, lastNumber, keyBytes, keyAllowed}
-use Rattle.page.specs.Page.{storedIn, withKey, storedAllowed, allAllowed, itemsOf, pageSize, writing, factoryPage}
+use Rattle.page.specs.Settings.{codeOf, someOf, usableValues, usable, storableValues, storable, readable, valueBytes, factoryValue, Key, valueOf, lastNumber, keyBytes, keyStorable}
+use Rattle.page.specs.Page.{storedIn, withKey, isStorable, allStorable, itemsOf, pageSize, writing, factoryPage}
 use Rattle.page.specs.Lookup.{entryFrom, entryOf, partOf, bodyOf, heldUnder, valuesIn}
 use Rattle.page.specs.Sound.{same, sound, pageNumber, putPage}
+use Rattle.page.specs.Loading.{valueOr}
 use Rattle.page.specs.Theorems
 
 -- ---- both of two tests
@@ -50,9 +51,9 @@ abbrev readBack : Key → Stored → Stored
 readBack k Absent = Absent
 readBack k (Value x) = Value (number (keyBytes k x))
 
--- What is loaded of a setting.
+-- What the lookup gives of a setting.
 abbrev loaded : Values → Setting → ℕ
-loaded v s = Theorems.valueOr (storedIn v s) (factoryValue s)
+loaded v s = valueOr (storedIn v s) (factoryValue s)
 
 abbrev Body : Values → Setting → Type 0
 Body v s = bodyOf (writing v) factoryPage (codeOf s) ≡ valueBytes s (loaded v s)
@@ -95,7 +96,7 @@ computed-of v = computed (v .baud) (v .accelerometer) (v .gyroscope) (v .number)
 pub writing-size : Theorems.WritingSize
 writing-size v = computed-of v .size
 
--- ---- what holds of each allowed value
+-- ---- what holds of each storable value
 
 abbrev eachOf : (ℕ → Bool) → List ℕ → Bool
 eachOf p [] = true
@@ -109,75 +110,68 @@ each p (k ∷ xs) x h e = go (eqb x k) refl (each p xs x (both (p k) (eachOf p x
     go true q ih = let i : x ≡ k = eqb-true x k q in rw i (both (p k) (eachOf p xs) h .0)
     go false q ih = ih (rw q at e)
 
--- A page can hold every value that can be in use.
-in-use-each : (s : Setting) → eachOf (pageAllowed s) (allowedValues s) ≡ true
-unfolding pageAllowed
-in-use-each Baud = refl
-in-use-each Accelerometer = refl
-in-use-each Gyroscope = refl
+-- A page can hold, and a reply report, every value that is usable.
+usable-each : (s : Setting) → (eachOf (storable s) (usableValues s) ≡ true) × (eachOf (readable s) (usableValues s) ≡ true)
+unfolding storable readable
+usable-each Baud = (refl, refl)
+usable-each Accelerometer = (refl, refl)
+usable-each Gyroscope = (refl, refl)
 
-pub in-use-kept : (s : Setting) (x : ℕ) → allowed s x ≡ true → pageAllowed s x ≡ true
-unfolding allowed
-in-use-kept s x e = each (pageAllowed s) (allowedValues s) x (in-use-each s) e
+pub usable-storable : (s : Setting) (x : ℕ) → usable s x ≡ true → storable s x ≡ true
+unfolding usable
+usable-storable s x e = each (storable s) (usableValues s) x (usable-each s .0) e
 
--- Every value that a page can hold can be in use.
-kept-each : (s : Setting) → eachOf (allowed s) (pageValues s) ≡ true
-unfolding allowed
-kept-each Baud = refl
-kept-each Accelerometer = refl
-kept-each Gyroscope = refl
+pub usable-readable : (s : Setting) (x : ℕ) → usable s x ≡ true → readable s x ≡ true
+unfolding usable
+usable-readable s x e = each (readable s) (usableValues s) x (usable-each s .1) e
 
-pub kept-in-use : (s : Setting) (x : ℕ) → pageAllowed s x ≡ true → allowed s x ≡ true
-unfolding pageAllowed
-kept-in-use s x e = each (allowed s) (pageValues s) x (kept-each s) e
-
--- An allowed value is the number of its bytes.
+-- A storable value is the number of its bytes.
 abbrev isNumber : Setting → ℕ → Bool
 isNumber s x = eqb (number (valueBytes s x)) x
 
-are-numbers : (s : Setting) → eachOf (isNumber s) (pageValues s) ≡ true
+are-numbers : (s : Setting) → eachOf (isNumber s) (storableValues s) ≡ true
 are-numbers Baud = refl
 are-numbers Accelerometer = refl
 are-numbers Gyroscope = refl
 
-pub key-back : (k : Key) (x : ℕ) → keyAllowed k x ≡ true → number (keyBytes k x) ≡ x
-unfolding pageAllowed
-key-back (valueOf s) x e = eqb-true (number (valueBytes s x)) x (each (isNumber s) (pageValues s) x (are-numbers s) e)
+pub key-back : (k : Key) (x : ℕ) → keyStorable k x ≡ true → number (keyBytes k x) ≡ x
+unfolding storable
+key-back (valueOf s) x e = eqb-true (number (valueBytes s x)) x (each (isNumber s) (storableValues s) x (are-numbers s) e)
 key-back lastNumber x e = word-back x (ltb-true x 4294967296 e)
 
-pub value-back : (s : Setting) (x : ℕ) → allowed s x ≡ true → number (valueBytes s x) ≡ x
-value-back s x e = key-back (valueOf s) x (in-use-kept s x e)
+pub value-back : (s : Setting) (x : ℕ) → usable s x ≡ true → number (valueBytes s x) ≡ x
+value-back s x e = key-back (valueOf s) x (usable-storable s x e)
 
-stored-back : (k : Key) (b : Stored) → storedAllowed k b ≡ true → readBack k b ≡ b
+stored-back : (k : Key) (b : Stored) → isStorable k b ≡ true → readBack k b ≡ b
 stored-back k Absent e = refl
 stored-back k (Value x) e = ap Value (key-back k x e)
 
--- ---- all values allowed
+-- ---- all values storable
 
-pub record Allowed (v : Values) : Type 0 where
-  pub baud : storedAllowed (valueOf Baud) (v .baud) ≡ true
-  pub accelerometer : storedAllowed (valueOf Accelerometer) (v .accelerometer) ≡ true
-  pub gyroscope : storedAllowed (valueOf Gyroscope) (v .gyroscope) ≡ true
-  pub number : storedAllowed lastNumber (v .number) ≡ true
+pub record Storable (v : Values) : Type 0 where
+  pub baud : isStorable (valueOf Baud) (v .baud) ≡ true
+  pub accelerometer : isStorable (valueOf Accelerometer) (v .accelerometer) ≡ true
+  pub gyroscope : isStorable (valueOf Gyroscope) (v .gyroscope) ≡ true
+  pub number : isStorable lastNumber (v .number) ≡ true
 
-pub allowed-each : (v : Values) → allAllowed v ≡ true → Allowed v
-unfolding allAllowed
-allowed-each v e =
-    let b = storedAllowed (valueOf Baud) (v .baud) in
-    let a = storedAllowed (valueOf Accelerometer) (v .accelerometer) in
-    let g = storedAllowed (valueOf Gyroscope) (v .gyroscope) in
-    let p = both (b && a && g) (storedAllowed lastNumber (v .number)) e in
+pub storable-each : (v : Values) → allStorable v ≡ true → Storable v
+unfolding allStorable
+storable-each v e =
+    let b = isStorable (valueOf Baud) (v .baud) in
+    let a = isStorable (valueOf Accelerometer) (v .accelerometer) in
+    let g = isStorable (valueOf Gyroscope) (v .gyroscope) in
+    let p = both (b && a && g) (isStorable lastNumber (v .number)) e in
     let q = both (b && a) g (p .0) in
     let r = both b a (q .0) in
     record { baud = r .0; accelerometer = r .1; gyroscope = q .1; number = p .1 }
 
-pub each-allowed : (v : Values) → Allowed v → allAllowed v ≡ true
-unfolding allAllowed
-each-allowed v h = rw (h .baud, h .accelerometer, h .gyroscope, h .number)
+pub each-storable : (v : Values) → Storable v → allStorable v ≡ true
+unfolding allStorable
+each-storable v h = rw (h .baud, h .accelerometer, h .gyroscope, h .number)
 
 pub read-back : Theorems.ReadBack
 read-back v e =
-    let h = allowed-each v e in
+    let h = storable-each v e in
     let b = stored-back (valueOf Baud) (v .baud) (h .baud) in
     let a = stored-back (valueOf Accelerometer) (v .accelerometer) (h .accelerometer) in
     let g = stored-back (valueOf Gyroscope) (v .gyroscope) (h .gyroscope) in
@@ -215,37 +209,37 @@ writing-sound v e = rw (read-back v e, e, same-refl (writing v))
 pub sound-is-writing : Theorems.SoundIsWriting
 unfolding sound
 sound-is-writing page e =
-    let b = both (allAllowed (valuesIn page)) (same page (writing (valuesIn page))) e in
-    record { allowed-values = b .0; written = same-eq page (writing (valuesIn page)) (b .1) }
+    let b = both (allStorable (valuesIn page)) (same page (writing (valuesIn page))) e in
+    record { storable-values = b .0; written = same-eq page (writing (valuesIn page)) (b .1) }
 
 pub sound-exactly : Theorems.SoundExactly
 sound-exactly =
     record {
-      sound-some = λ page e. let w = sound-is-writing page e in record { values = valuesIn page; allowed-values = w .allowed-values; written = w .written };
-      some-sound = λ page w. rw (w .written) (writing-sound (w .values) (w .allowed-values));
+      sound-some = λ page e. let w = sound-is-writing page e in record { values = valuesIn page; storable-values = w .storable-values; written = w .written };
+      some-sound = λ page w. rw (w .written) (writing-sound (w .values) (w .storable-values));
     }
 
 -- ---- a value put in
 
-pub with-allowed : (v : Values) (k : Key) (x : ℕ) → Allowed v → keyAllowed k x ≡ true → Allowed (withKey v k x)
-with-allowed v (valueOf Baud) x h e = record { baud = e; accelerometer = h .accelerometer; gyroscope = h .gyroscope; number = h .number }
-with-allowed v (valueOf Accelerometer) x h e = record { baud = h .baud; accelerometer = e; gyroscope = h .gyroscope; number = h .number }
-with-allowed v (valueOf Gyroscope) x h e = record { baud = h .baud; accelerometer = h .accelerometer; gyroscope = e; number = h .number }
-with-allowed v lastNumber x h e = record { baud = h .baud; accelerometer = h .accelerometer; gyroscope = h .gyroscope; number = e }
+pub with-storable : (v : Values) (k : Key) (x : ℕ) → Storable v → keyStorable k x ≡ true → Storable (withKey v k x)
+with-storable v (valueOf Baud) x h e = record { baud = e; accelerometer = h .accelerometer; gyroscope = h .gyroscope; number = h .number }
+with-storable v (valueOf Accelerometer) x h e = record { baud = h .baud; accelerometer = e; gyroscope = h .gyroscope; number = h .number }
+with-storable v (valueOf Gyroscope) x h e = record { baud = h .baud; accelerometer = h .accelerometer; gyroscope = e; number = h .number }
+with-storable v lastNumber x h e = record { baud = h .baud; accelerometer = h .accelerometer; gyroscope = h .gyroscope; number = e }
 
-pub put-allowed : (v : Values) (k : Key) (x : ℕ) → allAllowed v ≡ true → keyAllowed k x ≡ true → allAllowed (withKey v k x) ≡ true
-put-allowed v k x a e = each-allowed (withKey v k x) (with-allowed v k x (allowed-each v a) e)
+pub put-storable : (v : Values) (k : Key) (x : ℕ) → allStorable v ≡ true → keyStorable k x ≡ true → allStorable (withKey v k x) ≡ true
+put-storable v k x a e = each-storable (withKey v k x) (with-storable v k x (storable-each v a) e)
 
 pub put-keeps : Theorems.PutKeeps
 unfolding putPage
 put-keeps page k x e h =
     let v = withKey (valuesIn page) k x in
-    let f = put-allowed (valuesIn page) k x (sound-is-writing page e .allowed-values) h in
+    let f = put-storable (valuesIn page) k x (sound-is-writing page e .storable-values) h in
     record { values = read-back v f; sound-page = writing-sound v f }
 
 pub save-keeps : Theorems.SaveKeeps
 save-keeps page s x e h =
-    let p = put-keeps page (valueOf s) x e (in-use-kept s x h) in
+    let p = put-keeps page (valueOf s) x e h in
     record { values = p .values; sound-page = p .sound-page }
 
 pub number-keeps : Theorems.NumberKeeps
@@ -260,32 +254,36 @@ body-of v Baud = computed-of v .baud
 body-of v Accelerometer = computed-of v .accelerometer
 body-of v Gyroscope = computed-of v .gyroscope
 
-factory-allowed : (s : Setting) → allowed s (factoryValue s) ≡ true
-unfolding allowed
-factory-allowed Baud = refl
-factory-allowed Accelerometer = refl
-factory-allowed Gyroscope = refl
+-- Every factory value is usable.
+pub factory-usable : (s : Setting) → usable s (factoryValue s) ≡ true
+unfolding usable
+factory-usable Baud = refl
+factory-usable Accelerometer = refl
+factory-usable Gyroscope = refl
 
-stored-in-allowed : (v : Values) (s : Setting) → Allowed v → storedAllowed (valueOf s) (storedIn v s) ≡ true
-stored-in-allowed v Baud h = h .baud
-stored-in-allowed v Accelerometer h = h .accelerometer
-stored-in-allowed v Gyroscope h = h .gyroscope
+pub usable-everywhere : (s : Setting) → Theorems.UsableEverywhere s
+usable-everywhere s = record { stored = usable-storable s; reported = usable-readable s; factory = factory-usable s }
 
-value-or-allowed : (s : Setting) (b : Stored) → storedAllowed (valueOf s) b ≡ true → allowed s (Theorems.valueOr b (factoryValue s)) ≡ true
-value-or-allowed s Absent e = factory-allowed s
-value-or-allowed s (Value x) e = kept-in-use s x e
+stored-in-storable : (v : Values) (s : Setting) → Storable v → isStorable (valueOf s) (storedIn v s) ≡ true
+stored-in-storable v Baud h = h .baud
+stored-in-storable v Accelerometer h = h .accelerometer
+stored-in-storable v Gyroscope h = h .gyroscope
 
-pub loads-stored : Theorems.LoadsStored
-loads-stored page s e =
+value-or-storable : (s : Setting) (b : Stored) → isStorable (valueOf s) b ≡ true → storable s (valueOr b (factoryValue s)) ≡ true
+value-or-storable s Absent e = usable-storable s (factoryValue s) (factory-usable s)
+value-or-storable s (Value x) e = e
+
+pub looks-up-stored : Theorems.LooksUpStored
+looks-up-stored page s e =
     let v = valuesIn page in
     let w = sound-is-writing page e in
-    let f = value-or-allowed s (storedIn v s) (stored-in-allowed v s (allowed-each v (w .allowed-values))) in
+    let f = value-or-storable s (storedIn v s) (stored-in-storable v s (storable-each v (w .storable-values))) in
     let b : bodyOf page factoryPage (codeOf s) ≡ valueBytes s (loaded v s) =
     ap (λ (p : List ℕ). bodyOf p factoryPage (codeOf s)) (w .written) ∙ body-of v s in
-    record { body = b; value = ap number b ∙ value-back s (loaded v s) f; value-allowed = f }
+    record { body = b; value = ap number b ∙ key-back (valueOf s) (loaded v s) f; value-storable = f }
 
 pub writing-is-sound : Theorems.WritingIsSound
-writing-is-sound page i = rw (i .written) (writing-sound (valuesIn page) (i .allowed-values))
+writing-is-sound page i = rw (i .written) (writing-sound (valuesIn page) (i .storable-values))
 
 pub blank-is-writing : Theorems.BlankIsWriting
 unfolding writing valuesIn heldUnder entryOf

@@ -12,13 +12,13 @@ use Rattle.page.specs.declared.setting.Stored.{Stored}
 use Rattle.page.specs.declared.setting.Stored.the-variants.{Absent, Value}
 use Rattle.page.specs.declared.setting.Values.{Values}
 use Rattle.page.specs.Settings.{codeOf, settingOf, Key, valueOf, lastNumber, keyOf}
-use Rattle.page.specs.Page.{withValue, withNumber, withKey, noValues, storedAllowed, allAllowed, writing}
+use Rattle.page.specs.Page.{withValue, withNumber, withKey, noValues, isStorable, allStorable, writing}
 use Rattle.page.specs.Lookup.{valuesIn}
 use Rattle.page.specs.Sound.{PageWriting, pageWriting}
 use Rattle.page.specs.Draft.{withCoded, puttingOn}
-use Rattle.page.proofs.Pages.{allowed-each, put-allowed, read-back, writing-size}
+use Rattle.page.proofs.Pages.{storable-each, put-storable, read-back, writing-size}
 use Rattle.page.proofs.Stores.{refused-19, refused-20, page-written}
-use Rattle.page.proofs.Sounds.{write-none, allow-none}
+use Rattle.page.proofs.Sounds.{write-none, none-storable}
 use Rattle.page.proofs.Settings.{code-baud, code-accelerometer, code-gyroscope, key-setting, key-number, key-unknown}
 
 -- ---- under a code
@@ -51,7 +51,7 @@ module _ (page : List ℕ) (code x : ℕ) where
   pub put-19 : (length page ≡ 64 → ⊥) → page ≡ pageAfter page (withCoded (valuesIn page) (keyOf code) x)
   put-19 n = ap (λ (w : PageWriting). w .page) (refused-19 (withCoded (valuesIn page) (keyOf code) x) page n)
 
-  module _ (size : length page ≡ 64) (w u : Values) (read : w ≡ valuesIn page) (e : u ≡ withCoded w (keyOf code) x) (r : Bool) (a : r ≡ allAllowed u) where
+  module _ (size : length page ≡ 64) (w u : Values) (read : w ≡ valuesIn page) (e : u ≡ withCoded w (keyOf code) x) (r : Bool) (a : r ≡ allStorable u) where
     put-in : u ≡ withCoded (valuesIn page) (keyOf code) x
     put-in = e ∙ ap (λ (v : Values). withCoded v (keyOf code) x) read
 
@@ -93,17 +93,17 @@ abbrev withMaybe : Values → Key → Stored → Values
 withMaybe v k Absent = v
 withMaybe v k (Value x) = withKey v k x
 
-maybe-allowed : (v : Values) (k : Key) (b : Stored) → allAllowed v ≡ true → storedAllowed k b ≡ true → allAllowed (withMaybe v k b) ≡ true
-maybe-allowed v k Absent a e = a
-maybe-allowed v k (Value x) a e = put-allowed v k x a e
+maybe-storable : (v : Values) (k : Key) (b : Stored) → allStorable v ≡ true → isStorable k b ≡ true → allStorable (withMaybe v k b) ≡ true
+maybe-storable v k Absent a e = a
+maybe-storable v k (Value x) a e = put-storable v k x a e
 
--- Put into the writing of allowed values, it gives their writing with it.
-put-writing : (v : Values) (k : Key) (b : Stored) → allAllowed v ≡ true → storedAllowed k b ≡ true → puttingOn b (some k) (writing v) ≡ writing (withMaybe v k b)
+-- Put into the writing of storable values, it gives their writing with it.
+put-writing : (v : Values) (k : Key) (b : Stored) → allStorable v ≡ true → isStorable k b ≡ true → puttingOn b (some k) (writing v) ≡ writing (withMaybe v k b)
 put-writing v k Absent a e = refl
 put-writing v k (Value x) a e =
     let u : Values = withKey v k x in
     ap (λ (w : Values). pageAfter (writing v) (withKey w k x)) (read-back v a)
-    ∙ sym (ap (λ (w : PageWriting). w .page) (page-written u (writing v) (writing-size v) true (sym (put-allowed v k x a e)) refl (writing u) refl))
+    ∙ sym (ap (λ (w : PageWriting). w .page) (page-written u (writing v) (writing-size v) true (sym (put-storable v k x a e)) refl (writing u) refl))
 
 only-baud : (b : Stored) → withMaybe noValues (valueOf Baud) b ≡ record { baud = b; accelerometer = Absent; gyroscope = Absent; number = Absent }
 only-baud Absent = refl
@@ -128,21 +128,21 @@ then-number b a g Absent = refl
 then-number b a g (Value x) = refl
 
 -- One step: from the writing of the values so far to that of those with one more.
-module _ (v w : Values) (k : Key) (b : Stored) (more : withMaybe v k b ≡ w) (a : allAllowed v ≡ true) (e : storedAllowed k b ≡ true) where
-  next-allowed : allAllowed w ≡ true
-  next-allowed = rw (← more) (maybe-allowed v k b a e)
+module _ (v w : Values) (k : Key) (b : Stored) (more : withMaybe v k b ≡ w) (a : allStorable v ≡ true) (e : isStorable k b ≡ true) where
+  next-storable : allStorable w ≡ true
+  next-storable = rw (← more) (maybe-storable v k b a e)
 
   next-writing : (code : ℕ) → some k ≡ keyOf code → (page next : List ℕ) → page ≡ writing v → next ≡ puttingOn b (keyOf code) page → next ≡ writing w
   next-writing code c page next p h = h ∙ rw (← c, p, put-writing v k b a e, more)
 
-module _ (v : Values) (page : List ℕ) (size : length page ≡ 64) (r : Bool) (a : r ≡ allAllowed v) (h : not r ≡ false) where
+module _ (v : Values) (page : List ℕ) (size : length page ≡ 64) (r : Bool) (a : r ≡ allStorable v) (h : not r ≡ false) where
   pub all-put : (blank first second third fourth : List ℕ) → blank ≡ replicate (length page) 0xFF
       → first ≡ puttingOn (v .baud) (keyOf 0x01) blank → second ≡ puttingOn (v .accelerometer) (keyOf 0x07) first
       → third ≡ puttingOn (v .gyroscope) (keyOf 0x08) second → fourth ≡ puttingOn (v .number) (keyOf 0x70) third
       → record { number = 0; page = fourth } ≡ pageWriting v page
   all-put blank first second third fourth e0 e1 e2 e3 e4 =
-      let t : allAllowed v ≡ true = sym a ∙ not-false r h in
-      let each = allowed-each v t in
+      let t : allStorable v ≡ true = sym a ∙ not-false r h in
+      let each = storable-each v t in
       let v0 : Values = noValues in
       let v1 : Values = record { baud = v .baud; accelerometer = Absent; gyroscope = Absent; number = Absent } in
       let v2 : Values = record { baud = v .baud; accelerometer = v .accelerometer; gyroscope = Absent; number = Absent } in
@@ -151,11 +151,11 @@ module _ (v : Values) (page : List ℕ) (size : length page ≡ 64) (r : Bool) (
       let m2 = then-accelerometer (v .baud) (v .accelerometer) in
       let m3 = then-gyroscope (v .baud) (v .accelerometer) (v .gyroscope) in
       let m4 = then-number (v .baud) (v .accelerometer) (v .gyroscope) (v .number) in
-      let a1 = next-allowed v0 v1 (valueOf Baud) (v .baud) m1 allow-none (each .baud) in
-      let a2 = next-allowed v1 v2 (valueOf Accelerometer) (v .accelerometer) m2 a1 (each .accelerometer) in
-      let a3 = next-allowed v2 v3 (valueOf Gyroscope) (v .gyroscope) m3 a2 (each .gyroscope) in
+      let a1 = next-storable v0 v1 (valueOf Baud) (v .baud) m1 none-storable (each .baud) in
+      let a2 = next-storable v1 v2 (valueOf Accelerometer) (v .accelerometer) m2 a1 (each .accelerometer) in
+      let a3 = next-storable v2 v3 (valueOf Gyroscope) (v .gyroscope) m3 a2 (each .gyroscope) in
       let w0 : blank ≡ writing v0 = e0 ∙ rw size write-none in
-      let w1 = next-writing v0 v1 (valueOf Baud) (v .baud) m1 allow-none (each .baud) 0x01 (key-setting 0x01 Baud (code-baud 0x01 refl)) blank first w0 e1 in
+      let w1 = next-writing v0 v1 (valueOf Baud) (v .baud) m1 none-storable (each .baud) 0x01 (key-setting 0x01 Baud (code-baud 0x01 refl)) blank first w0 e1 in
       let w2 = next-writing v1 v2 (valueOf Accelerometer) (v .accelerometer) m2 a1 (each .accelerometer) 0x07 (key-setting 0x07 Accelerometer (code-accelerometer 0x07 refl)) first second w1 e2 in
       let w3 = next-writing v2 v3 (valueOf Gyroscope) (v .gyroscope) m3 a2 (each .gyroscope) 0x08 (key-setting 0x08 Gyroscope (code-gyroscope 0x08 refl)) second third w2 e3 in
       let w4 = next-writing v3 v lastNumber (v .number) m4 a3 (each .number) 0x70 (key-number 0x70 refl) third fourth w3 e4 in

@@ -9,7 +9,7 @@ use Rattle.page.specs.declared.setting.Setting.the-variants.{Baud, Accel
 use Rattle.page.specs.declared.setting.Stored.{Stored}
 use Rattle.page.specs.declared.setting.Stored.the-variants.{Absent, Value}
 use Rattle.page.specs.declared.setting.Values.{Values}
-use Rattle.page.specs.Settings.{factoryValue, Key, valueOf, lastNumber, keyCode, keyBytes, keyAllowed}
+use Rattle.page.specs.Settings.{factoryValue, Key, valueOf, lastNumber, keyCode, keyBytes, keyStorable}
 
 -- ---- values under codes
 
@@ -49,17 +49,17 @@ factoryValues =
       number = Absent;
     }
 
-abbrev pub storedAllowed : Key → Stored → Bool
-storedAllowed k Absent = true
-storedAllowed k (Value x) = keyAllowed k x
+abbrev pub isStorable : Key → Stored → Bool
+isStorable k Absent = true
+isStorable k (Value x) = keyStorable k x
 
--- Each value that is there is allowed on the page.
-unfoldable pub allAllowed : Values → Bool
-allAllowed v =
-    storedAllowed (valueOf Baud) (v .baud)
-    && storedAllowed (valueOf Accelerometer) (v .accelerometer)
-    && storedAllowed (valueOf Gyroscope) (v .gyroscope)
-    && storedAllowed lastNumber (v .number)
+-- Each value that is there is storable.
+unfoldable pub allStorable : Values → Bool
+allStorable v =
+    isStorable (valueOf Baud) (v .baud)
+    && isStorable (valueOf Accelerometer) (v .accelerometer)
+    && isStorable (valueOf Gyroscope) (v .gyroscope)
+    && isStorable lastNumber (v .number)
 
 -- ---- the writing of values
 

@@ -1,6 +1,6 @@
--- Document 01, "Handling one message", values: the settings, their codes, sizes, allowed and factory values; and document 02,
--- request 03: the number that the page keeps beside them.
-use mathlib.Core.Bool.{Bool, true, false, _||_}
+-- Document 01, "Handling one message", values: the settings, their codes, sizes, values and factory values; and document 02,
+-- requests 03 and 05: the number that the page keeps beside them, and the ranges of this board's gyroscope.
+use mathlib.Core.Bool.{Bool, true, false, _&&_, _||_, not}
 use mathlib.Core.List.{List, [], _∷_}
 use mathlib.Core.Option.{Option, none, some}
 use Prim.Native.Nat.{ℕ, _%_}
@@ -31,31 +31,52 @@ abbrev pub someOf : {A : Type 0} → (A → Bool) → List A → Bool
 someOf p [] = false
 someOf p (x ∷ xs) = p x || someOf p xs
 
--- Baud: one of six rates; accelerometer range: 01 to 04; gyroscope range: 01 to 07.
+-- Baud: one of six rates; accelerometer range: 01 to 04.
 abbrev pub baudRates : List ℕ
 baudRates = 9600 ∷ 19200 ∷ 115200 ∷ 230400 ∷ 460800 ∷ 921600 ∷ []
 
 abbrev pub accelerometerRanges : List ℕ
 accelerometerRanges = 0x01 ∷ 0x02 ∷ 0x03 ∷ 0x04 ∷ []
 
+-- Gyroscope range: "Our new sensor has codes 01 to 05."
 abbrev pub gyroscopeRanges : List ℕ
-gyroscopeRanges = 0x01 ∷ 0x02 ∷ 0x03 ∷ 0x04 ∷ 0x05 ∷ 0x06 ∷ 0x07 ∷ []
+gyroscopeRanges = 0x01 ∷ 0x02 ∷ 0x03 ∷ 0x04 ∷ 0x05 ∷ []
 
--- Which values are allowed depends on where a value stands. Those in use:
-abbrev pub allowedValues : Setting → List ℕ
-allowedValues Baud = baudRates
-allowedValues Accelerometer = accelerometerRanges
-allowedValues Gyroscope = gyroscopeRanges
+-- Older boards, and what they saved, have document 01's: 01 to 07.
+abbrev pub olderGyroscopeRanges : List ℕ
+olderGyroscopeRanges = 0x01 ∷ 0x02 ∷ 0x03 ∷ 0x04 ∷ 0x05 ∷ 0x06 ∷ 0x07 ∷ []
 
-unfoldable pub allowed : Setting → ℕ → Bool
-allowed s v = someOf (eqb v) (allowedValues s)
+-- Document 01's "allowed" has three meanings, by where a value stands. Usable on this board: as a working value, with function 1, and
+-- for the command writer.
+abbrev pub usableValues : Setting → List ℕ
+usableValues Baud = baudRates
+usableValues Accelerometer = accelerometerRanges
+usableValues Gyroscope = gyroscopeRanges
 
--- Those on the page are the same.
-abbrev pub pageValues : Setting → List ℕ
-pageValues s = allowedValues s
+unfoldable pub usable : Setting → ℕ → Bool
+usable s v = someOf (eqb v) (usableValues s)
 
-unfoldable pub pageAllowed : Setting → ℕ → Bool
-pageAllowed s v = someOf (eqb v) (pageValues s)
+-- Storable in a page: "old pages that hold [06 and 07] stay sound".
+abbrev pub storableValues : Setting → List ℕ
+storableValues Baud = baudRates
+storableValues Accelerometer = accelerometerRanges
+storableValues Gyroscope = olderGyroscopeRanges
+
+unfoldable pub storable : Setting → ℕ → Bool
+storable s v = someOf (eqb v) (storableValues s)
+
+-- "Not on this board": a page can hold the value, and this board cannot use it.
+abbrev pub notHere : Setting → ℕ → Bool
+notHere s v = storable s v && not (usable s v)
+
+-- Readable in a reply: "the reply reader still takes them, from older boards".
+abbrev pub readableValues : Setting → List ℕ
+readableValues Baud = baudRates
+readableValues Accelerometer = accelerometerRanges
+readableValues Gyroscope = olderGyroscopeRanges
+
+unfoldable pub readable : Setting → ℕ → Bool
+readable s v = someOf (eqb v) (readableValues s)
 
 -- The bytes of a value: four, or one.
 abbrev pub valueBytes : Setting → ℕ → List ℕ
@@ -91,10 +112,10 @@ keyBytes lastNumber x = wordBytes x
 abbrev pub keySize : Key → ℕ
 keySize k = length (keyBytes k 0)
 
--- A setting's value is one of the page's; a number has any value of four bytes.
-abbrev pub keyAllowed : Key → ℕ → Bool
-keyAllowed (valueOf s) x = pageAllowed s x
-keyAllowed lastNumber x = ltb x 4294967296
+-- Storable under a key: of a setting as above; a number has any value of four bytes.
+abbrev pub keyStorable : Key → ℕ → Bool
+keyStorable (valueOf s) x = storable s x
+keyStorable lastNumber x = ltb x 4294967296
 
 abbrev pub keyedOn : Coded → Bool → Option Key
 keyedOn (Known s) n = some (valueOf s)

@@ -7,7 +7,7 @@ use lib.ListN.{length}
 use Rattle.page.specs.declared.setting.Setting.{Setting}
 use Rattle.page.specs.declared.setting.Values.{Values}
 use Rattle.page.specs.Settings.{Key, valueOf, lastNumber}
-use Rattle.page.specs.Page.{writing, pageSize, allAllowed, withKey}
+use Rattle.page.specs.Page.{writing, pageSize, allStorable, withKey}
 use Rattle.page.specs.Lookup.{valuesIn}
 
 -- Are two rows of bytes the same?
@@ -17,10 +17,10 @@ same [] (y ∷ ys) = false
 same (x ∷ xs) [] = false
 same (x ∷ xs) (y ∷ ys) = eqb x y && same xs ys
 
--- Sound: blank, or exactly the writing of some allowed values. (Blank is the writing of no values.) Some values are
+-- Sound: blank, or exactly the writing of some allowed values, that is storable ones. (Blank is the writing of no values.) Some values are
 -- those read from the page (`SoundExactly`), and there are no others, since a writing reads back (`ReadBack`): so these are tried.
 unfoldable pub sound : List ℕ → Bool
-sound page = allAllowed (valuesIn page) && same page (writing (valuesIn page))
+sound page = allStorable (valuesIn page) && same page (writing (valuesIn page))
 
 abbrev pub refuse : Bool → ℕ → ℕ → ℕ
 refuse true n next = n
@@ -41,11 +41,11 @@ abbrev pub refuseWriting : Bool → ℕ → List ℕ → PageWriting → PageWri
 refuseWriting true n page next = record { number = n; page = page }
 refuseWriting false n page next = next
 
--- 19: not 64 bytes; 20: a value is not allowed, so that the page would not be sound. Nothing is written then.
+-- 19: not 64 bytes; 20: a value is not storable, so that the page would not be sound. Nothing is written then.
 unfoldable pub pageWriting : Values → List ℕ → PageWriting
 pageWriting v page =
     refuseWriting (not (eqb (length page) pageSize)) 19 page
-    (refuseWriting (not (allAllowed v)) 20 page
+    (refuseWriting (not (allStorable v)) 20 page
     (record { number = 0; page = writing v }))
 
 -- The page with a value put in: it keeps the other entries, and is written anew.

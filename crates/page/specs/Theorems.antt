@@ -1,20 +1,20 @@
 -- What is proved of the page's definitions, beyond the contracts of the code. Each statement names its proof, a term of that type in a
 -- file of proofs/.
 use mathlib.Core.Path.{_≡_}
-use mathlib.Core.Bool.{Bool, true, _&&_}
+use mathlib.Core.Bool.{Bool, true, false, _&&_, _||_}
 use mathlib.Core.List.{List, [], _∷_}
 use Prim.Native.Nat.{ℕ, _<_}
-use lib.Dec.{ltb}
+use lib.Dec.{eqb, ltb}
 use lib.ListN.{length}
 use Rattle.word.specs.Word.{number}
 use Rattle.page.specs.declared.setting.Setting.{Setting}
-use Rattle.page.specs.declared.setting.Stored.{Stored}
-use Rattle.page.specs.declared.setting.Stored.the-variants.{Absent, Value}
+use Rattle.page.specs.declared.setting.Setting.the-variants.{Baud, Accelerometer, Gyroscope}
 use Rattle.page.specs.declared.setting.Values.{Values}
-use Rattle.page.specs.Settings.{codeOf, allowed, valueBytes, factoryValue, Key, keyAllowed}
-use Rattle.page.specs.Page.{storedIn, withValue, withNumber, withKey, noValues, allAllowed, Item, itemsOf, writing, pageSize, blankPage, factoryPage}
+use Rattle.page.specs.Settings.{codeOf, usable, storable, notHere, readable, valueBytes, factoryValue, Key, keyStorable}
+use Rattle.page.specs.Page.{storedIn, withValue, withNumber, withKey, noValues, allStorable, Item, itemsOf, writing, pageSize, blankPage, factoryPage}
 use Rattle.page.specs.Lookup.{bodyOf, valuesIn}
 use Rattle.page.specs.Sound.{sound, putPage, savedPage, numberedPage}
+use Rattle.page.specs.Loading.{valueOr}
 
 -- Every writing is 64 bytes. Proof: Pages `writing-size`.
 abbrev pub WritingSize : Type 0
@@ -31,15 +31,15 @@ CodesAscend = (v : Values) → ascending (itemsOf v) ≡ true
 
 -- Reading a writing gives the values back. Proof: Pages `read-back`.
 abbrev pub ReadBack : Type 0
-ReadBack = (v : Values) → allAllowed v ≡ true → valuesIn (writing v) ≡ v
+ReadBack = (v : Values) → allStorable v ≡ true → valuesIn (writing v) ≡ v
 
--- The writing of allowed values is sound, and a sound page is the writing of the allowed values that are read from it. Proofs: Pages
+-- The writing of storable values is sound, and a sound page is the writing of the storable values that are read from it. Proofs: Pages
 -- `writing-sound`, `sound-is-writing`, `writing-is-sound`.
 abbrev pub WritingSound : Type 0
-WritingSound = (v : Values) → allAllowed v ≡ true → sound (writing v) ≡ true
+WritingSound = (v : Values) → allStorable v ≡ true → sound (writing v) ≡ true
 
 pub record IsWriting (page : List ℕ) : Type 0 where
-  pub allowed-values : allAllowed (valuesIn page) ≡ true
+  pub storable-values : allStorable (valuesIn page) ≡ true
   pub written : page ≡ writing (valuesIn page)
 
 abbrev pub SoundIsWriting : Type 0
@@ -48,11 +48,11 @@ SoundIsWriting = (page : List ℕ) → sound page ≡ true → IsWriting page
 abbrev pub WritingIsSound : Type 0
 WritingIsSound = (page : List ℕ) → IsWriting page → sound page ≡ true
 
--- "Exactly the writing of some allowed values": a page is sound where there are such values, and nowhere else. Proof:
+-- "Exactly the writing of some allowed values", storable ones: a page is sound where there are such values, and nowhere else. Proof:
 -- Pages `sound-exactly`.
 pub record SomeWriting (page : List ℕ) : Type 0 where
   pub values : Values
-  pub allowed-values : allAllowed values ≡ true
+  pub storable-values : allStorable values ≡ true
   pub written : page ≡ writing values
 
 pub record SoundExactly : Type 0 where
@@ -70,7 +70,7 @@ pub record Put (page : List ℕ) (k : Key) (x : ℕ) : Type 0 where
   pub sound-page : sound (putPage page k x) ≡ true
 
 abbrev pub PutKeeps : Type 0
-PutKeeps = (page : List ℕ) (k : Key) (x : ℕ) → sound page ≡ true → keyAllowed k x ≡ true → Put page k x
+PutKeeps = (page : List ℕ) (k : Key) (x : ℕ) → sound page ≡ true → keyStorable k x ≡ true → Put page k x
 
 -- So it is of a save, and of a fresh number. Proofs: Pages `save-keeps`, `number-keeps`.
 pub record Saved (page : List ℕ) (s : Setting) (x : ℕ) : Type 0 where
@@ -78,7 +78,7 @@ pub record Saved (page : List ℕ) (s : Setting) (x : ℕ) : Type 0 where
   pub sound-page : sound (savedPage page s x) ≡ true
 
 abbrev pub SaveKeeps : Type 0
-SaveKeeps = (page : List ℕ) (s : Setting) (x : ℕ) → sound page ≡ true → allowed s x ≡ true → Saved page s x
+SaveKeeps = (page : List ℕ) (s : Setting) (x : ℕ) → sound page ≡ true → storable s x ≡ true → Saved page s x
 
 pub record Numbered (page : List ℕ) (n : ℕ) : Type 0 where
   pub values : valuesIn (numberedPage page n) ≡ withNumber (valuesIn page) n
@@ -87,16 +87,31 @@ pub record Numbered (page : List ℕ) (n : ℕ) : Type 0 where
 abbrev pub NumberKeeps : Type 0
 NumberKeeps = (page : List ℕ) (n : ℕ) → sound page ≡ true → n < 4294967296 → Numbered page n
 
--- What is loaded of a setting: the page's value, or the factory value where it has none.
-abbrev pub valueOr : Stored → ℕ → ℕ
-valueOr Absent x = x
-valueOr (Value y) x = y
-
--- From a sound page the lookup gives the bytes of that value, and it is allowed. Proof: Pages `loads-stored`.
-pub record Loaded (page : List ℕ) (s : Setting) : Type 0 where
+-- From a sound page the lookup gives the bytes of the value that it holds, or of the factory value where it holds none; it is storable.
+-- Proof: Pages `looks-up-stored`.
+pub record LookedUp (page : List ℕ) (s : Setting) : Type 0 where
   pub body : bodyOf page factoryPage (codeOf s) ≡ valueBytes s (valueOr (storedIn (valuesIn page) s) (factoryValue s))
   pub value : number (bodyOf page factoryPage (codeOf s)) ≡ valueOr (storedIn (valuesIn page) s) (factoryValue s)
-  pub value-allowed : allowed s (valueOr (storedIn (valuesIn page) s) (factoryValue s)) ≡ true
+  pub value-storable : storable s (valueOr (storedIn (valuesIn page) s) (factoryValue s)) ≡ true
 
-abbrev pub LoadsStored : Type 0
-LoadsStored = (page : List ℕ) (s : Setting) → sound page ≡ true → Loaded page s
+abbrev pub LooksUpStored : Type 0
+LooksUpStored = (page : List ℕ) (s : Setting) → sound page ≡ true → LookedUp page s
+
+-- ---- the roles of a value
+
+-- What is usable on this board can be saved and reported, and the factory values are usable. Proof: Pages `usable-everywhere`.
+pub record UsableEverywhere (s : Setting) : Type 0 where
+  pub stored : (x : ℕ) → usable s x ≡ true → storable s x ≡ true
+  pub reported : (x : ℕ) → usable s x ≡ true → readable s x ≡ true
+  pub factory : usable s (factoryValue s) ≡ true
+
+abbrev pub isGyroscope : Setting → Bool
+isGyroscope Baud = false
+isGyroscope Accelerometer = false
+isGyroscope Gyroscope = true
+
+-- "06 or 07": these are the values that a page can hold and a reply report, and that are not usable on this board. Proof: Settings
+-- `not-on-this-board`.
+pub record NotOnThisBoard (s : Setting) (x : ℕ) : Type 0 where
+  pub stored : notHere s x ≡ isGyroscope s && (eqb x 0x06 || eqb x 0x07)
+  pub reported : readable s x ≡ storable s x

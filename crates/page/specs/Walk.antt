@@ -8,7 +8,7 @@ use lib.Dec.{eqb, leb, ltb}
 use lib.ListN.{getD, take, drop}
 use lib.Seq.{slice}
 use Rattle.word.specs.Word.{number}
-use Rattle.page.specs.Settings.{pageAllowed, valueSize, Key, valueOf, lastNumber, keyOf}
+use Rattle.page.specs.Settings.{storable, valueSize, Key, valueOf, lastNumber, keyOf}
 use Rattle.page.specs.Lookup.{mostEntries}
 
 -- Is each byte FF?
@@ -21,10 +21,10 @@ abbrev pub sizeOn : Bool → ℕ → ℕ
 sizeOn true size = size
 sizeOn false size = 0
 
--- The size of the value that some bytes start with, or 0 where it is not allowed; 0 for a code that stands for nothing. Any four
+-- The size of the value that some bytes start with, or 0 where it is not storable; 0 for a code that stands for nothing. Any four
 -- bytes are a number.
 abbrev pub codedSize : Option Key → List ℕ → ℕ
-codedSize (some (valueOf s)) bs = sizeOn (pageAllowed s (number (take (valueSize s) bs))) (valueSize s)
+codedSize (some (valueOf s)) bs = sizeOn (storable s (number (take (valueSize s) bs))) (valueSize s)
 codedSize (some lastNumber) bs = 4
 codedSize none bs = 0
 

@@ -11,7 +11,7 @@ use crate::setting::Values;
 use crate::setting::code_of;
 use crate::setting::with_number;
 use crate::setting::with_value;
-use crate::store::all_allowed;
+use crate::store::all_storable;
 use crate::store::erase;
 use crate::store::fill_page;
 use crate::store::values_of;
@@ -38,7 +38,7 @@ fn put(code: u8, value: u32, page: &mut [u8])
         return;
     }
     let values = with_code(values_of(page), code, value);
-    if !all_allowed(values) {
+    if !all_storable(values) {
         return;
     }
     fill_page(values, page);
@@ -75,7 +75,7 @@ pub fn write_page(values: Values, page: &mut [u8]) -> u8
     if page.len() != 64 {
         return 19;
     }
-    if !all_allowed(values) {
+    if !all_storable(values) {
         return 20;
     }
     let baud = values.baud;

@@ -2,7 +2,7 @@
 ghost use mathlib.Core.Path.{_≡_};
 ghost use mathlib.Core.Bool.{_&&_};
 ghost use lib.Dec.{eqb, leb};
-ghost use Rattle.page.specs.Settings.{codeOf, settingOf, someOf, baudRates, allowed, pageAllowed, valueSize, factoryValue};
+ghost use Rattle.page.specs.Settings.{codeOf, settingOf, someOf, baudRates, usable, storable, readable, valueSize, factoryValue};
 ghost use Rattle.page.specs.Page.{withValue, withNumber};
 
 pub enum Setting {
@@ -55,7 +55,7 @@ pub fn code_of(setting: Setting) -> u8
     }
 }
 
-fn baud_allowed(value: u32) -> bool
+fn is_baud_rate(value: u32) -> bool
     ensures { λ r. ⌜ r ≡ someOf (eqb value) baudRates ⌝ }
 {
     match value {
@@ -70,22 +70,33 @@ fn between(first: u32, value: u32, last: u32) -> bool
     if first <= value { value <= last } else { false }
 }
 
-// Whether the board takes this value for this setting.
-pub fn allowed(setting: Setting, value: u32) -> bool
-    ensures { λ r. ⌜ r ≡ allowed setting value ⌝ }
+// Whether this board can use the value: as a working value, and so sent with function 1.
+pub fn usable(setting: Setting, value: u32) -> bool
+    ensures { λ r. ⌜ r ≡ usable setting value ⌝ }
 {
     match setting {
-        Setting::Baud => baud_allowed(value),
+        Setting::Baud => is_baud_rate(value),
+        Setting::Accelerometer => between(1, value, 4),
+        Setting::Gyroscope => between(1, value, 5),
+    }
+}
+
+// Whether a page can hold the value: older boards saved two ranges more of the gyroscope.
+pub fn storable(setting: Setting, value: u32) -> bool
+    ensures { λ r. ⌜ r ≡ storable setting value ⌝ }
+{
+    match setting {
+        Setting::Baud => is_baud_rate(value),
         Setting::Accelerometer => between(1, value, 4),
         Setting::Gyroscope => between(1, value, 7),
     }
 }
 
-// Whether a page can hold this value of this setting: what the board takes, and nothing else.
-pub fn page_allowed(setting: Setting, value: u32) -> bool
-    ensures { λ r. ⌜ r ≡ pageAllowed setting value ⌝ }
+// Whether a reply can report the value: older boards reply too, with what they can save.
+pub fn readable(setting: Setting, value: u32) -> bool
+    ensures { λ r. ⌜ r ≡ readable setting value ⌝ }
 {
-    allowed(setting, value)
+    storable(setting, value)
 }
 
 // The number of bytes of a value.

@@ -83,7 +83,7 @@ struct Tally {
     refused: u32,
 }
 
-// Each setting has no value, an allowed one, or one that is just out of range.
+// Each setting has no value, a storable one, or one that is just out of range.
 fn pages(out: Output) -> Output {
     let mut tally = Tally {
         written: 0,

@@ -5,7 +5,8 @@ use plain::generate::{self, Rng};
 /// What is in a file.
 #[derive(Clone, Copy, Debug, PartialEq, Eq)]
 pub enum File {
-    /// Commands that the board accepts, 8 to 13 bytes each.
+    /// Commands that the board accepts, 8 to 13 bytes each; about one in sixty-six has a range of the gyroscope that it no
+    /// longer has, and gets error 6.
     ShortCommands,
     /// Data messages of 34 bytes.
     DataMessages,

@@ -17,7 +17,7 @@ pub struct Case {
 fn page_with(last_number: Option<u32>) -> [u8; 64] {
     let mut page = [0; 64];
     let values = Values { baud: Some(9600), accelerometer: Some(1), gyroscope: Some(1), last_number };
-    values.write(&mut page).expect("allowed values");
+    values.write(&mut page).expect("values that a page may keep");
     page
 }
 

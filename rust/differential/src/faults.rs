@@ -4,6 +4,7 @@
 use crate::calls::{self, Calls, Fed, FieldGiven, NumberedGiven};
 use crate::folds::{refold, Before};
 use crate::lenient;
+use crate::ranging;
 use crate::wrapper::Wrapper;
 use ketphiroj::ffi::{self, FlatField, FlatPage, FlatReply, FlatValues, Started, StartedInPlace, Written};
 use ketphiroj::{Board, Field, Outcome, Port, Refusal, Reply, Settings, Values, PAGE};
@@ -142,7 +143,6 @@ pub enum Fault {
     Error5After4,
     // Found in replies to numbered commands, and in the writer of these.
     Error5Refused,
-    Error6Read,
     OneRowInNumbered,
     NoValueInNumbered,
     NumberAsValue,
@@ -159,6 +159,54 @@ pub enum Fault {
     NumberNotWritten,
     NumberNotThere,
     BodyOfNumber,
+    // Found in commands of the gyroscope's range: function 1 with one that the board no longer takes.
+    OldRangeUsed,
+    OldRangeUsedWith6,
+    OldRangeAsFactory,
+    OldRangeAs4,
+    Range7As4,
+    BadRangeAs6,
+    AccelerometerAs6,
+    Error6BeforeSize,
+    Error6Before5,
+    // Function 4 on a page that holds one.
+    SentRangeWithLoad,
+    OldLoadBeforeSize,
+    OldLoadBefore5,
+    OldLoadTaken,
+    OldLoadAsFactory,
+    OldLoadAlters,
+    OldLoadOfSent,
+    OldLoadAs4,
+    OldLoadLeaves,
+    OldLoadMarked,
+    OldLoadWrites,
+    OldLoadErases,
+    // What else is done on such a page, and boards that hold such a range.
+    ReportOnOldPageRefused,
+    SaveOnOldPageRefused,
+    FactoryOnOldPageRefused,
+    SaveDropsOldRange,
+    SaveMendsOldRange,
+    FeedOnOldPageRefused,
+    OldBoardFed,
+    // The calls of their own, with such a range or on such a page.
+    StartOnOldRange,
+    StartOnOldPageRefused,
+    RestartKeepsOldRange,
+    StartInPlaceOnOldRange,
+    StartInPlaceOnOldPageRefused,
+    OldPageUnsound,
+    OldRangeNotRead,
+    OldPageNotWritten,
+    OldBodyFromFactory,
+    OldRangeWritten,
+    OldRangeNumbered,
+    OldRangeAppended,
+    Error6Refused,
+    Error7Read,
+    Reply6Refused,
+    Reply7Refused,
     // Found in starts in place.
     SecondPortKept,
     LastByteKept,
@@ -241,6 +289,12 @@ impl Calls for Planted {
         if self.is(Fault::StartOnNumber) && started.number == 0 && has_entry(page, 0x70) {
             started.board.settings = ffi::start(&[0xFF; 64]).board.settings;
         }
+        match (self.0, old_range(page)) {
+            (Fault::StartOnOldRange, Some(7)) => started.board.settings.gyroscope = 7,
+            (Fault::RestartKeepsOldRange, Some(6)) => started.board.settings.gyroscope = 6,
+            (Fault::StartOnOldPageRefused, Some(_)) => return Started { number: 20, ..ffi::start(&[0; 64]) },
+            _ => {}
+        }
         started
     }
 
@@ -253,6 +307,9 @@ impl Calls for Planted {
         let before = Before { port, board, chunk, room: room.to_vec(), page: page.to_vec() };
         if let Some(fed) = feed_run(self.0, port, board, chunk, room, page) {
             return fed;
+        }
+        if self.is(Fault::OldBoardFed) && ranging::old(board.settings.gyroscope) {
+            return feed_old_board(&before, room, page);
         }
         if self.is(Fault::RoomOf165) && room.len() == Board::REPLY - 1 {
             return feed_in_short_room(&before, room, page);
@@ -281,6 +338,9 @@ impl Calls for Planted {
             Fault::SentValueSaved if fed.saved && chunk.len() == 10 => save_sent_range(chunk, page),
             Fault::JunkKept if fed.number == 1 && chunk.is_empty() => keep_junk(&mut fed, &board),
             Fault::UnsoundBeforePort if fed.number == 16 && board.first.held > 260 => fed.number = 17,
+            Fault::FeedOnOldPageRefused if fed.number < 16 && old_range(&before.page).is_some() => {
+                refuse(20, &before, &mut fed, room, page)
+            }
             _ => {}
         }
         fed
@@ -336,8 +396,7 @@ impl Calls for Planted {
     }
 
     fn write_command(&self, code: u8, function: u8, value: u32, room: &mut [u8]) -> Written {
-        let value = if self.is(Fault::RangeModulo256) && code != 0x01 { value % 256 } else { value };
-        ffi::write_command(code, function, value, room)
+        lenient::write_command(self.0, code, function, value, room)
     }
 
     fn write_data(&self, acceleration: [u32; 3], rate: [u32; 3], room: &mut [u8]) -> Written {
@@ -351,6 +410,7 @@ impl Calls for Planted {
             20 if self.is(Fault::PageOfNoEntry) && page[0] == 0 => 0,
             0 if self.is(Fault::FourEntriesRefused) && page[0] == 4 => 20,
             20 if self.is(Fault::NumberOfOneByte) && page.starts_with(&[1, 0x70, 4, 1]) => 0,
+            0 if self.is(Fault::OldPageUnsound) && old_range(page) == Some(7) => 20,
             number => number,
         }
     }
@@ -369,6 +429,10 @@ impl Calls for Planted {
             read.values.has_last_number = false;
             read.values.last_number = 0;
         }
+        if self.is(Fault::OldRangeNotRead) && read.values.gyroscope > 5 {
+            read.values.has_gyroscope = false;
+            read.values.gyroscope = 0;
+        }
         read
     }
 
@@ -382,6 +446,9 @@ impl Calls for Planted {
         if self.is(Fault::NumberNotThere) && values.last_number > 0 {
             values.has_last_number = true;
         }
+        if self.is(Fault::OldPageNotWritten) && values.has_gyroscope && values.gyroscope == 6 && page.len() == 64 {
+            return 20;
+        }
         ffi::write_page(values, page)
     }
 
@@ -389,6 +456,12 @@ impl Calls for Planted {
         match ffi::copy_body(saved, factory, code, room) {
             // Of a page that has all three entries the last is not found.
             Written { number: 0, .. } if self.is(Fault::BodyFromFactory) && saved[0] == 3 && code == 8 => {
+                ffi::copy_body(&[0xFF; 64], factory, code, room)
+            }
+            // As a start takes it.
+            Written { number: 0, .. }
+                if self.is(Fault::OldBodyFromFactory) && code == 8 && old_range(saved).is_some() =>
+            {
                 ffi::copy_body(&[0xFF; 64], factory, code, room)
             }
             Written { number: 0, .. } if self.is(Fault::BodyOfNumber) && code == 0x70 && saved[0] == 4 => {
@@ -591,6 +664,12 @@ fn start_kept_board(fault: Fault, first: &mut [u8], second: &mut [u8], page: &[u
         (Fault::StartInPlaceOnNumber, 0) if has_entry(page, 0x70) => {
             started.settings = ffi::start(&[0xFF; 64]).board.settings
         }
+        (Fault::StartInPlaceOnOldRange, 0) => {
+            started.settings.gyroscope = old_range(page).unwrap_or(started.settings.gyroscope)
+        }
+        (Fault::StartInPlaceOnOldPageRefused, 0) if old_range(page).is_some() => {
+            started = StartedInPlace { settings: ffi::start(&[0xFF; 64]).board.settings, number: 20 }
+        }
         _ => {}
     }
     started
@@ -608,6 +687,30 @@ fn feed_in_short_room(before: &Before, room: &mut [u8], page: &mut [u8]) -> Fed 
 fn has_entry(page: &[u8], code: u8) -> bool {
     let body = plain::body(page, &[0xFF; 64], code).1;
     !body.is_empty()
+}
+
+/// The range of the gyroscope that a sound page holds, where the board no longer takes it.
+fn old_range(page: &[u8]) -> Option<u8> {
+    plain::values(page)?.gyroscope.filter(|&range| ranging::old(range))
+}
+
+/// A board that works with a range that it no longer takes is fed as one with another range; its own stays where the
+/// message does not change it.
+fn feed_old_board(before: &Before, room: &mut [u8], page: &mut [u8]) -> Fed {
+    let mut board = before.board;
+    board.settings.gyroscope = 1;
+    let mut fed = calls::feed(before.port, board, before.chunk, room, page);
+    if fed.board.settings.gyroscope == 1 {
+        fed.board.settings.gyroscope = before.board.settings.gyroscope;
+    }
+    fed
+}
+
+/// The feed is refused after all.
+fn refuse(number: u8, before: &Before, fed: &mut Fed, room: &mut [u8], page: &mut [u8]) {
+    room.copy_from_slice(&before.room);
+    page.copy_from_slice(&before.page);
+    *fed = Fed { number, taken: 0, skipped: 0, saved: false, board: before.board };
 }
 
 /// Of a damaged message all is dropped, and not one byte.

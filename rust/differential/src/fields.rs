@@ -13,12 +13,13 @@ use plain::generate::{self, fields, Rng};
 /// Fields of type 02, right and wrong. The settings are not the factory's, so that a load or the factory value shows.
 pub fn some_fields() -> Vec<Vec<u8>> {
     let mut all = Vec::new();
-    for (code, values) in [(0x01, [9600, 921600]), (0x07, [1, 4]), (0x08, [1, 7])] {
+    for (code, values) in [(0x01, [9600, 921600]), (0x07, [1, 4]), (0x08, [1, 5])] {
         all.extend(values.map(|value| fields::setting(code, 1, value)));
         all.extend((2..=5).map(|function| vec![code, 1, function]));
     }
-    // A value that is not allowed, functions that are none, a size that is wrong, a save with two value bytes.
-    all.extend([vec![0x07, 2, 1, 5], vec![0x08, 1, 0], vec![0x08, 1, 6], vec![0x08, 1, 255], vec![0x07, 0]]);
+    // Values that are not usable, functions that are none, a size that is wrong, a save with two value bytes.
+    all.extend([vec![0x07, 2, 1, 5], vec![0x08, 2, 1, 7]]);
+    all.extend([vec![0x08, 1, 0], vec![0x08, 1, 6], vec![0x08, 1, 255], vec![0x07, 0]]);
     all.push(vec![0x07, 3, 3, 1, 1]);
     // Codes that are none of type 02.
     all.extend([vec![0x02, 0], vec![0x63, 0], vec![0x63, 2, 1, 1]]);
@@ -83,7 +84,7 @@ fn four_functions(calls: &impl Calls, rng: &mut Rng, ran: &mut Ran) -> Outcome {
     Ok(())
 }
 
-/// A board that holds nothing, with any allowed settings and any blank or sound page.
+/// A board that holds nothing, with any usable settings and any blank or sound page.
 fn fresh(rng: &mut Rng) -> Pair {
     let page = generate::sound_page(rng);
     singles::holding_nothing(rng, &page)

@@ -4,6 +4,7 @@
 use crate::calls::Fed;
 use crate::faults::Fault;
 use crate::numbering;
+use crate::ranging;
 use crate::records;
 use ketphiroj::{Board, Settings};
 use plain::{Handled, Row, Values};
@@ -55,8 +56,11 @@ impl Before<'_> {
 
 /// Where the fault shows in the message that was reported, its outcome instead of the library's.
 pub fn refold(fault: Fault, before: &Before, fed: &mut Fed, room: &mut [u8], page: &mut [u8]) {
-    let handled =
-        before.reported(fed).and_then(|reported| reported.wrong(fault).or_else(|| numbering::wrong(fault, &reported)));
+    let wrong = |reported: Reported| {
+        let handled = reported.wrong(fault).or_else(|| numbering::wrong(fault, &reported));
+        handled.or_else(|| ranging::wrong(fault, &reported))
+    };
+    let handled = before.reported(fed).and_then(wrong);
     let Some(handled) = handled.filter(|handled| handled.reply.len() <= room.len()) else {
         return;
     };
@@ -238,7 +242,7 @@ fn right_without_a_fault() {
         let kind = rng.pick(&[0x01, 0x02]);
         let count = rng.between(1, 16);
         let message = plain::message(kind, &fields::row(&mut rng, kind, count));
-        let (settings, values) = (generate::allowed_settings(&mut rng), numbered::values(&mut rng));
+        let (settings, values) = (generate::usable_settings(&mut rng), numbered::values(&mut rng));
         let port = rng.below(2) as u8;
         let expected = plain::handle(port, &message, settings, values);
         let reported = Reported::new(message, port, settings, values);

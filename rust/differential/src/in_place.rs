@@ -38,7 +38,7 @@ fn start_wrapped(calls: &impl Calls, board: &plain::Board, page: &[u8]) -> Outco
 }
 
 /// Both, of a board of any contents.
-fn start_any_board(calls: &impl Calls, rng: &mut Rng, page: &[u8], ran: &mut Ran) -> Outcome {
+pub fn start_any_board(calls: &impl Calls, rng: &mut Rng, page: &[u8], ran: &mut Ran) -> Outcome {
     let board = generate::board(rng);
     let arrays = [board.ports[0].bytes.to_vec(), board.ports[1].bytes.to_vec()];
     start(calls, arrays, page, ran)?;

@@ -1,7 +1,8 @@
-//! Reply readers and writers of fields and of numbered commands that are wrong in one point.
+//! Reply readers and writers of commands, of fields and of numbered commands that are wrong in one point.
 
 use crate::calls::{FieldGiven, NumberedGiven};
 use crate::faults::Fault;
+use crate::ranging::old;
 use ketphiroj::ffi::{self, FlatReply, Written};
 use plain::{Part, Row};
 
@@ -36,7 +37,7 @@ pub fn read(fault: Fault, message: &[u8], row: usize) -> Option<FlatReply> {
     })
 }
 
-const OF_ROWS: [Fault; 19] = [
+const OF_ROWS: [Fault; 22] = [
     Fault::NoRowAsLast,
     Fault::NoRowAs23,
     Fault::RowsFromOne,
@@ -52,13 +53,16 @@ const OF_ROWS: [Fault; 19] = [
     Fault::TwoValues,
     Fault::RowOfSize3,
     Fault::Error5Refused,
-    Fault::Error6Read,
+    Fault::Error6Refused,
+    Fault::Error7Read,
+    Fault::Reply6Refused,
+    Fault::Reply7Refused,
     Fault::OneRowInNumbered,
     Fault::NoValueInNumbered,
     Fault::NumberAsValue,
 ];
 
-/// The rows of a reply, with one fault in how many and where they are allowed.
+/// The rows of a reply, with one fault in how many and where they may be.
 fn rows(fault: Fault, kind: u8, fields: &[Part], asked: usize) -> Option<Vec<Row>> {
     let several = match kind {
         0x01 | 0x02 => true,
@@ -84,15 +88,16 @@ fn rows(fault: Fault, kind: u8, fields: &[Part], asked: usize) -> Option<Vec<Row
 
 fn read_fields(fault: Fault, kind: u8, fields: &[Part]) -> Option<Vec<Row>> {
     let mut rows: Vec<Row> = Vec::new();
-    let last = match fault {
-        Fault::Error5Refused => 4,
-        Fault::Error6Read => 6,
-        _ => 5,
+    let read = |error: u8| match error {
+        5 => fault != Fault::Error5Refused,
+        6 => fault != Fault::Error6Refused,
+        7 => fault == Fault::Error7Read,
+        _ => error < 7,
     };
     for field in fields {
         match *field.data {
-            [echo, error] if field.code == 0x80 && error <= last => rows.push(Row { echo, error, value: None }),
-            [echo, error, _] if field.code == 0x80 && error <= last && fault == Fault::RowOfSize3 => {
+            [echo, error] if field.code == 0x80 && read(error) => rows.push(Row { echo, error, value: None }),
+            [echo, error, _] if field.code == 0x80 && read(error) && fault == Fault::RowOfSize3 => {
                 rows.push(Row { echo, error, value: None })
             }
             _ => {
@@ -118,12 +123,38 @@ fn value(fault: Fault, kind: u8, row: &Row, field: &Part) -> Option<u32> {
         && (row.value.is_none() || fault == Fault::TwoValues)
         && (number || plain::value_size(field.code) == Some(field.data.len()));
     let value = field.data.iter().fold(0, |value: u32, &byte| value << 8 | u32::from(byte));
-    (right && (number || plain::allowed(field.code, value))).then_some(value)
+    (right && (number || readable(fault, field.code, value))).then_some(value)
+}
+
+fn readable(fault: Fault, code: u8, value: u32) -> bool {
+    match fault {
+        Fault::Reply6Refused if code == 0x08 => value != 6 && plain::readable(code, value),
+        Fault::Reply7Refused if code == 0x08 => value != 7 && plain::readable(code, value),
+        _ => plain::readable(code, value),
+    }
+}
+
+/// The field of a command that the board no longer accepts; none for the others.
+fn old_field(code: u8, function: u8, value: u32) -> Option<[u8; 4]> {
+    let range = u8::try_from(value).ok().filter(|&range| old(range))?;
+    (code == 0x08 && function == 1).then_some([code, 2, function, range])
+}
+
+/// What a command writer with the fault answers.
+pub fn write_command(fault: Fault, code: u8, function: u8, value: u32, room: &mut [u8]) -> Written {
+    match (fault, old_field(code, function, value)) {
+        (Fault::OldRangeWritten, Some(field)) => ffi::write_message(0x02, &field, room),
+        (Fault::RangeModulo256, _) if code != 0x01 => ffi::write_command(code, function, value % 256, room),
+        _ => ffi::write_command(code, function, value, room),
+    }
 }
 
 /// What a writer of numbered commands with the fault answers.
 pub fn write_numbered(fault: Fault, given: &NumberedGiven, room: &mut [u8]) -> Written {
     let NumberedGiven { number, code, function, value } = *given;
+    if let Some(field) = old_field(code, function, value).filter(|_| fault == Fault::OldRangeNumbered) {
+        return ffi::write_message(0x7C, &[&number.to_be_bytes()[..], &[0x02], &field].concat(), room);
+    }
     let number = if fault == Fault::NumberWrittenBackwards { number.swap_bytes() } else { number };
     let written = ffi::write_numbered(number, code, function, value, room);
     match (fault, written.number) {
@@ -146,8 +177,9 @@ pub fn append(fault: Fault, given: &FieldGiven, length: usize, room: &mut [u8]) 
     let FieldGiven { kind, code, function, value } = *given;
     let append = |kind, value, room: &mut [u8]| ffi::append_field(kind, code, function, value, length, room);
     match fault {
+        Fault::OldRangeAppended if kind == 0x02 => append_old(given, length, room),
         Fault::PingInType02 if kind == 0x02 && code == 0x02 => append(0x01, value, room),
-        Fault::UnusedValueTested if (2..=5).contains(&function) && !plain::allowed(code, value) => {
+        Fault::UnusedValueTested if (2..=5).contains(&function) && !plain::usable(code, value) => {
             Written { number: 28, length: 0 }
         }
         Fault::FieldRangeModulo256 if code != 0x01 => append(kind, value % 256, room),
@@ -159,6 +191,20 @@ pub fn append(fault: Fault, given: &FieldGiven, length: usize, room: &mut [u8]) 
             right
         }
         _ => after(fault, append(kind, value, room), length, room),
+    }
+}
+
+/// A writer of one field that knows all seven ranges of the gyroscope.
+fn append_old(given: &FieldGiven, length: usize, room: &mut [u8]) -> Written {
+    let FieldGiven { kind, code, function, value } = *given;
+    let left = length.checked_add(4).and_then(|end| room.get_mut(length..end));
+    match (old_field(code, function, value), left) {
+        (Some(field), Some(left)) => {
+            left.copy_from_slice(&field);
+            Written { number: 0, length: length + 4 }
+        }
+        (Some(_), None) => Written { number: 18, length: 0 },
+        (None, _) => ffi::append_field(kind, code, function, value, length, room),
     }
 }
 

@@ -18,6 +18,8 @@ mod messages;
 mod numbered;
 mod numbering;
 mod pages;
+mod ranges;
+mod ranging;
 mod records;
 mod rows;
 mod runs;
@@ -68,9 +70,11 @@ enum Group {
     NumberedReplies,
     WrittenNumbered,
     StartsInPlace,
+    Ranges,
+    RangeLists,
 }
 
-const GROUPS: [Group; 33] = [
+const GROUPS: [Group; 35] = [
     Group::Lists,
     Group::HardLists,
     Group::ReckonedLists,
@@ -104,6 +108,8 @@ const GROUPS: [Group; 33] = [
     Group::NumberedReplies,
     Group::WrittenNumbered,
     Group::StartsInPlace,
+    Group::Ranges,
+    Group::RangeLists,
 ];
 
 impl Group {
@@ -127,6 +133,7 @@ impl Group {
             Group::CutNumbered => 2_000,
             Group::Replays => 60_000,
             Group::GrowingNumbers => 30_000,
+            Group::RangeLists => 40_000,
             _ => 1,
         }
     }
@@ -135,7 +142,8 @@ impl Group {
     fn numbers(self) -> &'static [u8] {
         match self {
             Group::Lists | Group::ReckonedLists | Group::WrappedLists | Group::RunsOfA5 => &[0, 1, 16, 18],
-            Group::FieldLists | Group::Histories | Group::GrowingNumbers => &[0, 1, 16, 18],
+            Group::FieldLists | Group::Histories | Group::GrowingNumbers | Group::RangeLists => &[0, 1, 16, 18],
+            Group::Ranges => &[0, 17],
             Group::HardLists | Group::LongStreams | Group::CutFields | Group::CutNumbered => &[0, 1],
             Group::Boards => &[0, 1, 16, 17, 18, 19, 20],
             Group::Commands | Group::SeparateMessages | Group::Replays => &[0],
@@ -188,6 +196,8 @@ impl Group {
             Group::NumberedReplies => numbered::replies(calls, rng, ran),
             Group::WrittenNumbered => numbered::write(calls, rng, ran),
             Group::StartsInPlace => in_place::all(calls, rng, ran),
+            Group::Ranges => ranges::all(calls, rng, ran),
+            Group::RangeLists => ranges::lists(calls, rng, ran),
         }
     }
 
@@ -202,7 +212,7 @@ impl Group {
 }
 
 /// Each planted fault, and the group that is to find it.
-const FAULTS: [(Fault, Group); 182] = [
+const FAULTS: [(Fault, Group); 225] = [
     (Fault::ReplyOfError4, Group::Lists),
     (Fault::RoomPastTheReply, Group::Lists),
     (Fault::SkippedOfHeldMessage, Group::Lists),
@@ -238,7 +248,6 @@ const FAULTS: [(Fault, Group); 182] = [
     (Fault::WrappedMessageCheck, Group::Readers),
     (Fault::WrappedField, Group::Readers),
     (Fault::WrappedFieldData, Group::Readers),
-    (Fault::Error6Read, Group::Replies),
     (Fault::Error5Refused, Group::Replies),
     (Fault::WrappedReply, Group::Replies),
     (Fault::RoomThatJustFits, Group::WrittenMessages),
@@ -385,6 +394,50 @@ const FAULTS: [(Fault, Group); 182] = [
     (Fault::WrappedStartInPlace, Group::StartsInPlace),
     (Fault::WrappedHeldKept, Group::StartsInPlace),
     (Fault::WrappedRefusalKept, Group::StartsInPlace),
+    (Fault::OldRangeUsed, Group::Ranges),
+    (Fault::OldRangeUsedWith6, Group::Ranges),
+    (Fault::OldRangeAsFactory, Group::Ranges),
+    (Fault::OldRangeAs4, Group::Ranges),
+    (Fault::Range7As4, Group::Ranges),
+    (Fault::BadRangeAs6, Group::Ranges),
+    (Fault::AccelerometerAs6, Group::Ranges),
+    (Fault::Error6BeforeSize, Group::Ranges),
+    (Fault::Error6Before5, Group::Ranges),
+    (Fault::SentRangeWithLoad, Group::Ranges),
+    (Fault::OldLoadBeforeSize, Group::Ranges),
+    (Fault::OldLoadBefore5, Group::Ranges),
+    (Fault::OldLoadTaken, Group::Ranges),
+    (Fault::OldLoadAsFactory, Group::Ranges),
+    (Fault::OldLoadAlters, Group::Ranges),
+    (Fault::OldLoadOfSent, Group::Ranges),
+    (Fault::OldLoadAs4, Group::Ranges),
+    (Fault::OldLoadLeaves, Group::Ranges),
+    (Fault::OldLoadMarked, Group::Ranges),
+    (Fault::OldLoadWrites, Group::RangeLists),
+    (Fault::OldLoadErases, Group::RangeLists),
+    (Fault::ReportOnOldPageRefused, Group::Ranges),
+    (Fault::SaveOnOldPageRefused, Group::Ranges),
+    (Fault::FactoryOnOldPageRefused, Group::Ranges),
+    (Fault::SaveDropsOldRange, Group::RangeLists),
+    (Fault::SaveMendsOldRange, Group::Ranges),
+    (Fault::FeedOnOldPageRefused, Group::Ranges),
+    (Fault::OldBoardFed, Group::Ranges),
+    (Fault::StartOnOldRange, Group::Starts),
+    (Fault::StartOnOldPageRefused, Group::Starts),
+    (Fault::RestartKeepsOldRange, Group::RangeLists),
+    (Fault::StartInPlaceOnOldRange, Group::StartsInPlace),
+    (Fault::StartInPlaceOnOldPageRefused, Group::StartsInPlace),
+    (Fault::OldPageUnsound, Group::Pages),
+    (Fault::OldRangeNotRead, Group::Pages),
+    (Fault::OldPageNotWritten, Group::WrittenPages),
+    (Fault::OldBodyFromFactory, Group::Bodies),
+    (Fault::OldRangeWritten, Group::WrittenCommands),
+    (Fault::OldRangeNumbered, Group::WrittenNumbered),
+    (Fault::OldRangeAppended, Group::AppendedFields),
+    (Fault::Error6Refused, Group::Replies),
+    (Fault::Error7Read, Group::Replies),
+    (Fault::Reply6Refused, Group::Replies),
+    (Fault::Reply7Refused, Group::ReplyRows),
 ];
 
 /// The checks that passed and failed.

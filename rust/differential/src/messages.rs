@@ -194,7 +194,8 @@ fn one_command(calls: &impl Calls, given: (u8, u8, u32), room: usize, ran: &mut 
     wrapped("wrapped command", &written, |room| calls.wrapped_write_command(code, function, value, room))
 }
 
-/// The command writer: each code and function; under the board's codes many values, and rooms of all lengths.
+/// The command writer: each code and function; under the board's codes each value up to 9, many others, and rooms of all
+/// lengths.
 pub fn write_commands(calls: &impl Calls, rng: &mut Rng, ran: &mut Ran) -> Outcome {
     for code in 0..=255 {
         for function in 0..=255 {
@@ -204,6 +205,7 @@ pub fn write_commands(calls: &impl Calls, rng: &mut Rng, ran: &mut Ran) -> Outco
     }
     for code in [0x01, 0x02, 0x07, 0x08] {
         for function in 0..=6 {
+            (0..=9).try_for_each(|value| one_command(calls, (code, function, value), 16, ran))?;
             for _ in 0..2000 {
                 let value = generate::value(rng, code);
                 one_command(calls, (code, function, value), rng.below(20), ran)?;

@@ -282,8 +282,12 @@ fn number_in(bytes: &[u8]) -> Option<u32> {
 /// Replies of type 7C: each count of rows with and without values, each error, and replies of all kinds, right, wrong and
 /// damaged.
 pub fn replies(calls: &impl Calls, rng: &mut Rng, ran: &mut Ran) -> Outcome {
-    let row: [&[u8]; 5] = [
+    let row: [&[u8]; 9] = [
         &[0x80, 2, 7, 5],
+        &[0x80, 2, 8, 6],
+        &[0x80, 2, 8, 0, 8, 1, 6],
+        &[0x80, 2, 8, 0, 8, 1, 7],
+        &[0x80, 2, 8, 6, 8, 1, 6],
         &[0x80, 2, 7, 0, 7, 1, 2],
         &[0x80, 2, 1, 0, 1, 4, 0, 0, 0x25, 0x80],
         &[0x80, 2, 0x70, 0, 0x70, 4, 0, 0, 0, 1],
@@ -305,7 +309,7 @@ pub fn replies(calls: &impl Calls, rng: &mut Rng, ran: &mut Ran) -> Outcome {
             0 => {
                 let values = numbered::values(rng);
                 let received = numbered::command(rng, values.last_number);
-                plain::handle(0, &received, generate::allowed_settings(rng), values).reply
+                plain::handle(0, &received, generate::usable_settings(rng), values).reply
             }
             _ => fields::reply_of_kind(rng, 0x7C),
         };
@@ -330,7 +334,8 @@ fn write_one(calls: &impl Calls, given: NumberedGiven, room: usize, ran: &mut Ra
     wrapped("wrapped numbered command", &written, |room| calls.wrapped_write_numbered(&given, room))
 }
 
-/// The writer of numbered commands: each code and function; under the board's codes many numbers, values and rooms.
+/// The writer of numbered commands: each code and function; under the board's codes each value up to 9, and many numbers,
+/// values and rooms.
 pub fn write(calls: &impl Calls, rng: &mut Rng, ran: &mut Ran) -> Outcome {
     for code in 0..=255 {
         for function in 0..=255 {
@@ -341,6 +346,9 @@ pub fn write(calls: &impl Calls, rng: &mut Rng, ran: &mut Ran) -> Outcome {
     }
     for code in [0x01, 0x02, 0x07, 0x08] {
         for function in 0..=6 {
+            for value in 0..=9 {
+                write_one(calls, NumberedGiven { number: 1, code, function, value }, 24, ran)?;
+            }
             for _ in 0..2000 {
                 let (number, value) = (numbered::kept(rng), generate::value(rng, code));
                 write_one(calls, NumberedGiven { number, code, function, value }, rng.below(24), ran)?;

@@ -309,7 +309,7 @@ fn right_without_a_fault() {
     for _ in 0..20_000 {
         let values = numbered::values(&mut rng);
         let message = numbered::command(&mut rng, values.last_number);
-        let settings = generate::allowed_settings(&mut rng);
+        let settings = generate::usable_settings(&mut rng);
         let port = rng.below(2) as u8;
         let expected = plain::handle(port, &message, settings, values);
         let reported = Reported::new(message, port, settings, values);

@@ -58,12 +58,11 @@ pub fn read_all(calls: &impl Calls, rng: &mut Rng, ran: &mut Ran) -> Outcome {
     (0..200).try_for_each(|length| read(calls, &vec![0x01; length], ran))
 }
 
-/// What writing a page answers, and the page after it. The plain reading writes allowed values only; the others are
-/// refused with 20, after 19.
+/// What writing a page answers, and the page after it. Values that are not storable are refused with 20, after 19.
 fn plain_writing(values: &FlatValues, page: &mut [u8]) -> u8 {
     let values = optional(values);
     let given = [(0x01, values.baud), (0x07, values.accelerometer), (0x08, values.gyroscope)];
-    let refused = |(code, value): (u8, Option<u32>)| value.is_some_and(|value| !plain::allowed(code, value));
+    let refused = |(code, value): (u8, Option<u32>)| value.is_some_and(|value| !plain::storable(code, value));
     if page.len() != 64 {
         return plain::number::PAGE_LENGTH;
     }
@@ -93,7 +92,7 @@ fn write_one(calls: &impl Calls, values: FlatValues, length: usize, ran: &mut Ra
         .map_err(|text| format!("{text}\n  {values:?}, page of {length} bytes"))
 }
 
-/// Each choice of allowed values; others, with values beside a `has_` that is false; pages of other lengths.
+/// Each choice of storable values; others, with values beside a `has_` that is false; pages of other lengths.
 pub fn write_all(calls: &impl Calls, rng: &mut Rng, ran: &mut Ran) -> Outcome {
     for values in all_values() {
         write_one(calls, records::values(&values), 64, ran)?;

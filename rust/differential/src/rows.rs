@@ -67,8 +67,8 @@ fn length(rng: &mut Rng, room: usize) -> usize {
     }
 }
 
-/// Each type with each code and the functions about the allowed ones; then the codes of types 01 and 02 with many
-/// values, lengths and rooms; then payloads built field by field.
+/// Each type with each code and the functions about those there are; then the codes of types 01 and 02 with each value up
+/// to 9, and with many values, lengths and rooms; then payloads built field by field.
 pub fn append(calls: &impl Calls, rng: &mut Rng, ran: &mut Ran) -> Outcome {
     let functions = [0, 1, 2, 3, 4, 5, 6, 255];
     for kind in 0..=255 {
@@ -80,6 +80,9 @@ pub fn append(calls: &impl Calls, rng: &mut Rng, ran: &mut Ran) -> Outcome {
     for kind in 0..=3 {
         for code in [0x00, 0x01, 0x02, 0x03, 0x07, 0x08, 0x63] {
             for function in functions {
+                for value in 0..=9 {
+                    one_field(calls, FieldGiven { kind, code, function, value }, 3, 16, ran)?;
+                }
                 for _ in 0..500 {
                     let given = FieldGiven { kind, code, function, value: generate::value(rng, code) };
                     let room = rng.below(24);
@@ -100,7 +103,7 @@ fn built(calls: &impl Calls, rng: &mut Rng, ran: &mut Ran) -> Outcome {
     let count = rng.between(1, 16);
     for _ in 0..count {
         let code = if kind == 0x01 { 0x02 } else { rng.pick(&fields::SETTINGS) };
-        let (function, value) = (rng.between(1, 5) as u8, generate::allowed_value(rng, code));
+        let (function, value) = (rng.between(1, 5) as u8, generate::usable_value(rng, code));
         let given = FieldGiven { kind, code, function, value };
         length = calls.append_field(&given, length, &mut room).length;
         plain_length = plain::append_field(kind, code, function, value, plain_length, &mut plain_room).1;

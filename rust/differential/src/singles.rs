@@ -80,7 +80,7 @@ pub fn starts(calls: &impl Calls, rng: &mut Rng, ran: &mut Ran) -> Outcome {
     (0..200).try_for_each(|length| start(calls, &vec![0xFF; length], ran))
 }
 
-/// The 280 allowed choices of values under the settings' codes, without a number and with each of some.
+/// The 280 storable choices of values under the settings' codes, without a number and with each of some.
 pub fn all_values() -> Vec<plain::Values> {
     let mut all = Vec::new();
     for last_number in std::iter::once(None).chain(numbered::ENDS.map(Some)) {
@@ -95,10 +95,10 @@ pub fn all_values() -> Vec<plain::Values> {
     all
 }
 
-/// A board that holds nothing, with any allowed settings, on this page.
+/// A board that holds nothing, with any usable settings, on this page.
 pub fn holding_nothing(rng: &mut Rng, page: &[u8]) -> Pair {
     let ports = [plain::Port::fresh(), plain::Port::fresh()];
-    let plain = plain::Board { ports, settings: generate::allowed_settings(rng) };
+    let plain = plain::Board { ports, settings: generate::usable_settings(rng) };
     Pair { board: records::board(&plain), plain, page: page.to_vec() }
 }
 

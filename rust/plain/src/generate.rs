@@ -1,11 +1,13 @@
 //! Test material from a seed: messages, damaged ones, streams, chunks, pages, boards and lists of feeds; and the
 //! shrinking of a failing list. [`fields`] has the commands of several fields, and the replies to them, [`numbered`]
-//! the numbered commands, the pages that keep a number, and histories of feeds and restarts.
+//! the numbered commands, the pages that keep a number, and histories of feeds and restarts, [`ranges`] the gyroscope's
+//! ranges that this board no longer takes.
 //!
 //! The same seed gives the same material on every machine.
 
 pub mod fields;
 pub mod numbered;
+pub mod ranges;
 
 use crate::message::payload_of;
 use crate::{feed, message, start, sums, write_page, Board, Port, Settings, Values};
@@ -61,11 +63,11 @@ impl Rng {
 
 pub const BAUDS: [u32; 6] = [9600, 19200, 115200, 230400, 460800, 921600];
 
-/// A value for a code: allowed, nearly allowed or wild.
+/// A value for a code: listed, nearly listed or wild.
 pub fn value(rng: &mut Rng, code: u8) -> u32 {
     let baud = code == 0x01;
     match rng.below(8) {
-        0..=4 => allowed_value(rng, code),
+        0..=4 => listed_value(rng, code),
         5 if baud => {
             rng.pick(&[0, 1, 9599, 9601, 19201, 38400, 57600, 115201, 0x0002_C200, 0x00C2_0100, 921601, 1843200])
         }
@@ -76,8 +78,9 @@ pub fn value(rng: &mut Rng, code: u8) -> u32 {
     }
 }
 
-/// A value that is allowed under the code; 01, 07 and any other code as 08.
-pub fn allowed_value(rng: &mut Rng, code: u8) -> u32 {
+/// A value that a page may hold and a reply may report under the code; 01, 07 and any other code as 08. It is usable, but
+/// for the gyroscope's 06 and 07.
+pub fn listed_value(rng: &mut Rng, code: u8) -> u32 {
     match code {
         0x01 => rng.pick(&BAUDS),
         0x07 => rng.between(1, 4) as u32,
@@ -85,15 +88,23 @@ pub fn allowed_value(rng: &mut Rng, code: u8) -> u32 {
     }
 }
 
-pub fn allowed_settings(rng: &mut Rng) -> Settings {
-    Settings {
-        baud: allowed_value(rng, 0x01),
-        accelerometer: allowed_value(rng, 0x07) as u8,
-        gyroscope: allowed_value(rng, 0x08) as u8,
+/// A value that the board works with under the code; 01, 07 and any other code as 08.
+pub fn usable_value(rng: &mut Rng, code: u8) -> u32 {
+    match code {
+        0x01 | 0x07 => listed_value(rng, code),
+        _ => rng.between(1, 5) as u32,
     }
 }
 
-/// Settings of which any may be not allowed.
+pub fn usable_settings(rng: &mut Rng) -> Settings {
+    Settings {
+        baud: usable_value(rng, 0x01),
+        accelerometer: usable_value(rng, 0x07) as u8,
+        gyroscope: usable_value(rng, 0x08) as u8,
+    }
+}
+
+/// Settings of which any may be not usable.
 pub fn settings(rng: &mut Rng) -> Settings {
     Settings { baud: value(rng, 0x01), accelerometer: value(rng, 0x07) as u8, gyroscope: value(rng, 0x08) as u8 }
 }
@@ -132,7 +143,8 @@ pub fn function(rng: &mut Rng) -> u8 {
     }
 }
 
-/// A command that the board accepts.
+/// A command that the board accepts; but function 1 of the gyroscope's range comes with 06 and 07 too, which it answers
+/// with error 6: the benchmark's files have these commands in them, and are to stay as they were.
 pub fn accepted_command(rng: &mut Rng) -> Vec<u8> {
     if rng.chance(1, 5) {
         return message(0x01, &[0x02, 0]);
@@ -142,7 +154,7 @@ pub fn accepted_command(rng: &mut Rng) -> Vec<u8> {
     let function = rng.between(1, 5) as u8;
     let mut data = vec![function];
     if function == 1 {
-        data.extend_from_slice(&allowed_value(rng, code).to_be_bytes()[4 - size..]);
+        data.extend_from_slice(&listed_value(rng, code).to_be_bytes()[4 - size..]);
     } else if rng.chance(1, 3) {
         data.extend(rng.bytes(size));
     }
@@ -555,13 +567,14 @@ pub fn room(rng: &mut Rng) -> usize {
     }
 }
 
-/// Allowed values under any of the three settings' codes; no number.
+/// Storable values under any of the three settings' codes; no number. Half of the gyroscope's ranges are no longer taken.
 pub fn values(rng: &mut Rng) -> Values {
-    let settings = allowed_settings(rng);
+    let settings = usable_settings(rng);
+    let gyroscope = if rng.chance(1, 2) { rng.pick(&ranges::OLD) } else { settings.gyroscope };
     Values {
         baud: rng.chance(1, 2).then_some(settings.baud),
         accelerometer: rng.chance(1, 2).then_some(settings.accelerometer),
-        gyroscope: rng.chance(1, 2).then_some(settings.gyroscope),
+        gyroscope: rng.chance(1, 2).then_some(gyroscope),
         last_number: None,
     }
 }
@@ -576,7 +589,7 @@ pub fn sound_page(rng: &mut Rng) -> [u8; 64] {
 }
 
 /// The writing of any entries at all, at most six: codes that do not ascend, twice the same, unknown ones, values that
-/// are not allowed, bodies of wrong sizes.
+/// are not storable, bodies of wrong sizes.
 pub fn odd_page(rng: &mut Rng) -> [u8; 64] {
     let mut entries: Vec<(u8, Vec<u8>)> = Vec::new();
     let count = if rng.chance(1, 8) { rng.below(7) } else { rng.between(1, 3) };
@@ -707,15 +720,19 @@ pub fn any_port(rng: &mut Rng) -> Port {
 
 /// A sound board, with junk past the held bytes here and there.
 pub fn sound_board(rng: &mut Rng) -> Board {
-    Board { ports: [sound_port(rng), sound_port(rng)], settings: allowed_settings(rng) }
+    Board { ports: [sound_port(rng), sound_port(rng)], settings: usable_settings(rng) }
 }
 
-/// A board of any contents, sound or not.
+/// A board of any contents, sound or not; some are unsound by a range of the gyroscope alone that is no longer taken.
 pub fn board(rng: &mut Rng) -> Board {
     if rng.chance(2, 3) {
-        return sound_board(rng);
+        let mut board = sound_board(rng);
+        if rng.chance(1, 16) {
+            board.settings.gyroscope = rng.pick(&ranges::OLD);
+        }
+        return board;
     }
-    let settings = if rng.chance(1, 2) { allowed_settings(rng) } else { settings(rng) };
+    let settings = if rng.chance(1, 2) { usable_settings(rng) } else { settings(rng) };
     Board { ports: [any_port(rng), any_port(rng)], settings }
 }
 

@@ -1,5 +1,5 @@
 //! Handling one message (01-026 to 01-045), which may have several fields (02-02.2 to 02-02.4, 02-02.8) and a number
-//! (02-03.1 to 02-03.8, 02-03.11).
+//! (02-03.1 to 02-03.8, 02-03.11), and values that this board no longer takes (02-05.1 to 02-05.7).
 
 use crate::message::{bytes_of, fields_of, kind_of, message, number_of, payload_of, sums_right, Part};
 use crate::page::{Values, LAST_NUMBER};
@@ -42,9 +42,9 @@ pub fn value_size(code: u8) -> Option<usize> {
 }
 
 /// 01-040: "Values: baud, four bytes, one of 9600, 19200, 115200, 230400, 460800, 921600; accelerometer range, one
-/// byte, 01 to 04 on this board (02 is ±4 g in 003); gyroscope range, one byte, 01 to 07." No value is allowed under
-/// another code.
-pub fn allowed(code: u8, value: u32) -> bool {
+/// byte, 01 to 04 on this board (02 is ±4 g in 003); gyroscope range, one byte, 01 to 07." There is none under another
+/// code.
+fn listed(code: u8, value: u32) -> bool {
     match code {
         BAUD => [9600, 19200, 115200, 230400, 460800, 921600].contains(&value),
         ACCELEROMETER => (0x01..=0x04).contains(&value),
@@ -53,10 +53,41 @@ pub fn allowed(code: u8, value: u32) -> bool {
     }
 }
 
+/// Whether this board works with the value: what it may be set to, and what the command writer writes.
+///
+/// 02-05.1: "our new sensor has codes 01 to 05." 02-05.2: "Codes 06 and 07 are no longer taken."
+pub fn usable(code: u8, value: u32) -> bool {
+    match code {
+        GYROSCOPE => (0x01..=0x05).contains(&value),
+        _ => listed(code, value),
+    }
+}
+
+/// Whether a sound page may hold the value. 02-05.3: "Old pages that hold them stay sound".
+pub fn storable(code: u8, value: u32) -> bool {
+    listed(code, value)
+}
+
+/// Whether the reply reader takes the value. 02-05.6: "The reply reader still takes them, from older boards."
+pub fn readable(code: u8, value: u32) -> bool {
+    listed(code, value)
+}
+
+/// 02-05.7: "error 6, not on this board, for 06 or 07 [..]; any other bad value is still 4."
+fn not_on_this_board(code: u8, value: u32) -> bool {
+    code == GYROSCOPE && (value == 0x06 || value == 0x07)
+}
+
+/// What is taken from a page with these values. 01-056: "the body from the page if it has the entry, else from the
+/// factory page". Nothing where the page holds a value that this board no longer takes (02-05.3).
+pub fn loaded(code: u8, values: &Values) -> Option<u32> {
+    Some(values.value(code).unwrap_or(FACTORY.value(code))).filter(|&value| usable(code, value))
+}
+
 impl Settings {
-    /// Whether each working value is allowed.
-    pub fn allowed(&self) -> bool {
-        [BAUD, ACCELEROMETER, GYROSCOPE].iter().all(|&code| allowed(code, self.value(code)))
+    /// Whether this board works with each of these values. 02-05.4: "A board record holding them is unsound".
+    pub fn usable(&self) -> bool {
+        [BAUD, ACCELEROMETER, GYROSCOPE].iter().all(|&code| usable(code, self.value(code)))
     }
 
     /// The value under code 01, 07 or 08.
@@ -110,10 +141,10 @@ fn fields_or_error(kind: u8, payload: &[u8]) -> Result<Vec<Part<'_>>, u8> {
     }
 }
 
-/// The error of one field of a command of type 01 or 02: the rest of 01-026's table, which a separate message with this
-/// field alone would come to. Where the command needs a number and has none, 02-03.11: "error 5 stands after 3 and
-/// before a field's own 4."
-fn field_error(kind: u8, field: &Part, number_missing: bool) -> u8 {
+/// The error of one field of a command of type 01 or 02, on a page with these values: the rest of 01-026's table, which a
+/// separate message with this field alone would come to. Where the command needs a number and has none, 02-03.11: "error
+/// 5 stands after 3 and before a field's own 4."
+fn field_error(kind: u8, field: &Part, number_missing: bool, values: &Values) -> u8 {
     let code = field.code;
 
     // "3 | [..] or the code is not one of this type's above"
@@ -121,7 +152,7 @@ fn field_error(kind: u8, field: &Part, number_missing: bool) -> u8 {
         return 3;
     }
 
-    // "4 | [..] size wrong; function not 1 to 5; value not allowed"; "Ping has size 0."
+    // "4 | [..] size wrong"; "Ping has size 0."
     if kind == 0x01 && code == PING {
         return if field.data.is_empty() { 0 } else { 4 };
     }
@@ -136,20 +167,36 @@ fn field_error(kind: u8, field: &Part, number_missing: bool) -> u8 {
         return 5;
     }
 
+    // "4 | [..] size wrong; function not 1 to 5"
     let value_size = value_size(code).expect("a setting has a value");
     let right = match function {
         // "function 1 needs both;"
-        1 => value.len() == value_size && allowed(code, number_of(value)),
+        1 => value.len() == value_size,
         // "functions 2 to 5 come with the function only, or with as many value bytes as function 1 has, not looked at."
         2..=5 => value.is_empty() || value.len() == value_size,
         _ => false,
     };
+    if !right {
+        return 4;
+    }
 
-    // "0 | otherwise"
-    if right {
-        0
-    } else {
-        4
+    // 02-05.7: "sent with function 1 or held by the page under function 4, after the size and function tests".
+    match function {
+        1 => value_error(code, Some(number_of(value))),
+        4 => value_error(code, values.value(code)),
+        _ => 0,
+    }
+}
+
+/// The error of the value that is to be used, where there is one.
+fn value_error(code: u8, value: Option<u32>) -> u8 {
+    match value {
+        // 02-05.7: "error 6, not on this board, for 06 or 07"
+        Some(value) if not_on_this_board(code, value) => 6,
+        // "4 | [..] value not allowed"
+        Some(value) if !usable(code, value) => 4,
+        // "0 | otherwise"
+        _ => 0,
     }
 }
 
@@ -248,7 +295,8 @@ fn not_reached(payload: &[u8], error: u8, handled: &mut Handled) {
 /// Handles one field, on the settings and the page's values that those before it left.
 fn handle_field(kind: u8, field: &Part, number_missing: bool, handled: &mut Handled) {
     let code = field.code;
-    let mut row = Row { echo: code, error: field_error(kind, field, number_missing), value: None };
+    let error = field_error(kind, field, number_missing, &handled.values);
+    let mut row = Row { echo: code, error, value: None };
     // Only an accepted setting has a function. "Ping without both" (01-048).
     if row.error == 0 && kind == 0x02 {
         let working = handled.settings.value(code);
@@ -263,9 +311,9 @@ fn handle_field(kind: u8, field: &Part, number_missing: bool, handled: &mut Hand
                 handled.saved = true;
             }
             // "4 take the page's value;" "Loading [..] take the body from the page if it has the entry, else from the
-            // factory page." (01-056)
+            // factory page." (01-056) 02-05.3: "function 4 is refused with the working value left."
             4 => {
-                let loaded = handled.values.value(code).unwrap_or(FACTORY.value(code));
+                let loaded = loaded(code, &handled.values).expect("what is not loaded is refused");
                 handled.settings = handled.settings.with(code, loaded);
             }
             // "5 take the factory value."

@@ -1,6 +1,6 @@
 //! The board's protocol in plain Rust, and material to test with.
 //!
-//! This is a reading of the paper ("01", the board's protocol, line by line), with requests 01 to 03 of the change
+//! This is a reading of the paper ("01", the board's protocol, line by line), with requests 01 to 05 of the change
 //! requests ("02"), and not of the library. It is slow and obvious, in the papers' words and order; numbers such as
 //! 01-014 and 02-01.3 are those of the papers' sentences. READINGS.md says how each sentence is read that leaves a
 //! doubt, and which readings docs/DECISIONS.md settles. [`read_page`], [`body`], [`append_field`], [`write_numbered`]
@@ -37,7 +37,8 @@ pub mod reckoning;
 pub mod scan;
 pub mod writers;
 
-pub use handling::{allowed, fresh, handle, reply_of, value_size, Handled, Row, Settings, FACTORY};
+pub use handling::{fresh, handle, loaded, readable, reply_of, storable, usable, value_size};
+pub use handling::{Handled, Row, Settings, FACTORY};
 pub use listing::listing;
 pub use message::{check_message, fields_of, message, sums, sums_right, Part, Sums};
 pub use page::{body, check_page, factory_page, read_page, values, write_page, Values};

@@ -6,7 +6,7 @@ pub const DONE: u8 = 0;
 pub const USED_UP: u8 = 1;
 /// "port not 0 or 1"
 pub const PORT: u8 = 16;
-/// "board unsound: a port holds over 260, or a working value is not allowed"
+/// "board unsound: a port holds over 260, or a working value is not allowed"; since 02-05.4 the gyroscope's 06 and 07 too
 pub const UNSOUND: u8 = 17;
 /// "room too small: feed under 16 bytes, otherwise under the message's length"; since 02-02.5 a feed under 166 bytes
 pub const ROOM: u8 = 18;

@@ -1,6 +1,7 @@
-//! The start-up page (01-049 to 01-056), with the last number accepted as entry 70 (02-03.2).
+//! The start-up page (01-049 to 01-056), with the last number accepted as entry 70 (02-03.2), and with values that this
+//! board no longer takes (02-05.3).
 
-use crate::handling::{allowed, value_size, ACCELEROMETER, BAUD, FACTORY, GYROSCOPE};
+use crate::handling::{storable, value_size, ACCELEROMETER, BAUD, FACTORY, GYROSCOPE};
 use crate::message::{bytes_of, number_of};
 use crate::number;
 
@@ -60,16 +61,16 @@ impl Values {
     }
 }
 
-/// Whether each value that is there is allowed. 02-03.2: entry 70 has "four bytes of any value".
-fn allowed_values(values: &Values) -> bool {
+/// Whether a sound page may hold each value that is there. 02-03.2: entry 70 has "four bytes of any value".
+fn storable_values(values: &Values) -> bool {
     CODES.iter().all(|&code| match values.value(code) {
         None => true,
         Some(_) if code == LAST_NUMBER => true,
-        Some(value) => allowed(code, value),
+        Some(value) => storable(code, value),
     })
 }
 
-/// The writing of values, allowed or not; blank with none.
+/// The writing of values, storable or not; blank with none.
 pub fn write_page(values: &Values) -> [u8; PAGE] {
     let mut entries: Vec<(u8, Vec<u8>)> = Vec::new();
     // "Codes ascend."
@@ -137,7 +138,8 @@ fn values_behind(page: &[u8]) -> Option<Values> {
 /// The values of a blank or sound page; nothing for another one.
 ///
 /// 01-053: "Blank: 64 bytes FF, no entry." 01-054: "Sound: blank, or exactly the writing of some allowed values under
-/// codes 01, 07, 08", and since 02-03.2 under 70.
+/// codes 01, 07, 08", and since 02-03.2 under 70. 02-05.3: "Old pages that hold them stay sound": those allowed are the
+/// storable ones.
 pub fn values(page: &[u8]) -> Option<Values> {
     if page.len() != PAGE {
         return None;
@@ -145,7 +147,7 @@ pub fn values(page: &[u8]) -> Option<Values> {
     if page.iter().all(|&byte| byte == 0xFF) {
         return Some(Values::default());
     }
-    values_behind(page).filter(|values| allowed_values(values) && write_page(values)[..] == *page)
+    values_behind(page).filter(|values| storable_values(values) && write_page(values)[..] == *page)
 }
 
 /// 0, or the first of 19 and 20 that applies.

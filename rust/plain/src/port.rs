@@ -1,6 +1,7 @@
-//! Ports, the board, starting and feeding (01-013 to 01-025, 01-056, 01-084 to 01-088; 02-01.3, 02-02.5, 02-03.6).
+//! Ports, the board, starting and feeding (01-013 to 01-025, 01-056, 01-084 to 01-088; 02-01.3, 02-02.5, 02-03.6,
+//! 02-05.3, 02-05.4).
 
-use crate::handling::{handle, Settings, ACCELEROMETER, BAUD, FACTORY, GYROSCOPE};
+use crate::handling::{handle, usable, Settings, ACCELEROMETER, BAUD, FACTORY, GYROSCOPE};
 use crate::message::{length_of, number_of, sums_right};
 use crate::number;
 use crate::page::{body_of, check_page, factory_page, values, write_page};
@@ -43,11 +44,19 @@ pub fn start(page: &[u8]) -> (u8, Board) {
     }
     // "Loading, and starting, take the body from the page if it has the entry, else from the factory page."
     let factory = factory_page();
-    let settings = Settings {
-        baud: number_of(body_of(page, &factory, BAUD)),
-        accelerometer: body_of(page, &factory, ACCELEROMETER)[0],
-        gyroscope: body_of(page, &factory, GYROSCOPE)[0],
+    let started = |code: u8| {
+        let value = number_of(body_of(page, &factory, code));
+        // 02-05.3: "Old pages that hold them stay sound: starting uses the factory value".
+        if usable(code, value) {
+            value
+        } else {
+            FACTORY.value(code)
+        }
     };
+    let settings = FACTORY
+        .with(BAUD, started(BAUD))
+        .with(ACCELEROMETER, started(ACCELEROMETER))
+        .with(GYROSCOPE, started(GYROSCOPE));
     (number::DONE, Board { ports: [Port::fresh(), Port::fresh()], settings })
 }
 
@@ -114,8 +123,9 @@ fn refusal(port: u8, board: &Board, room: &[u8], page: &[u8]) -> u8 {
     if port != 0 && port != 1 {
         return number::PORT;
     }
-    // "17 | board unsound: a port holds over 260, or a working value is not allowed"
-    if board.ports.iter().any(|port| port.held > Port::MOST_HELD) || !board.settings.allowed() {
+    // "17 | board unsound: a port holds over 260, or a working value is not allowed"; 02-05.4: "A board record holding
+    // them is unsound (17)."
+    if board.ports.iter().any(|port| port.held > Port::MOST_HELD) || !board.settings.usable() {
         return number::UNSOUND;
     }
     // "18 | room too small: feed under 16 bytes"; 02-02.5: "The feed's room grows to 166, number 18 below that."

@@ -1,6 +1,6 @@
-//! The reply reader (01-046; 02-02.7, 02-03.6) and the data reader (01-089 to 01-091).
+//! The reply reader (01-046; 02-02.7, 02-03.6, 02-05.6, 02-05.7) and the data reader (01-089 to 01-091).
 
-use crate::handling::{allowed, value_size, Row, ACCELEROMETER, BAUD, GYROSCOPE, NUMBERED};
+use crate::handling::{readable, value_size, Row, ACCELEROMETER, BAUD, GYROSCOPE, NUMBERED};
 use crate::message::{check_message, fields_of, kind_of, number_of, payload_of, Part};
 use crate::number;
 
@@ -56,16 +56,16 @@ fn rows_of(kind: u8, payload: &[u8]) -> Option<Vec<Row>> {
 }
 
 /// "The reply reader takes a field 80 of size 2 with an error of the table above, as the table stands at the time, and
-/// nothing after it;" 02-03.6: "and error 5".
+/// nothing after it;" 02-03.6: "and error 5". 02-05.7: "error 6, not on this board".
 fn row_of(field: &Part) -> Option<Row> {
     match *field.data {
-        [echo, error @ 0..=5] if field.code == 0x80 => Some(Row { echo, error, value: None }),
+        [echo, error @ 0..=6] if field.code == 0x80 => Some(Row { echo, error, value: None }),
         _ => None,
     }
 }
 
 /// "or, with type 02 and error 0, one more field whose code is the echo (01, 07 or 08), with its value size and an
-/// allowed value." 02-03.6: "7C rows as type 02's".
+/// allowed value." 02-03.6: "7C rows as type 02's". 02-05.6: "The reply reader still takes them, from older boards."
 fn value_of(kind: u8, row: &Row, field: &Part) -> Option<u32> {
     let echo = row.echo;
     let reports = kind == 0x02 || kind == NUMBERED;
@@ -78,7 +78,7 @@ fn value_of(kind: u8, row: &Row, field: &Part) -> Option<u32> {
     if Some(field.data.len()) != value_size(echo) {
         return None;
     }
-    Some(number_of(field.data)).filter(|&value| allowed(echo, value))
+    Some(number_of(field.data)).filter(|&value| readable(echo, value))
 }
 
 /// 01-090: "Each field read is an acceleration, a rate or an unknown one."

@@ -1,6 +1,6 @@
-//! The plain reckoning (01-057 to 01-068; 02-02.5, 02-02.6, 02-03.9), with restarts (02-03.10).
+//! The plain reckoning (01-057 to 01-068; 02-02.5, 02-02.6, 02-03.9, 02-05.3), with restarts (02-03.10).
 
-use crate::handling::{handle, Settings, ACCELEROMETER, BAUD, FACTORY, GYROSCOPE};
+use crate::handling::{handle, loaded, Settings, ACCELEROMETER, BAUD, FACTORY, GYROSCOPE};
 use crate::number;
 use crate::page::{values, write_page, Values};
 use crate::scan::{scan, Event};
@@ -79,8 +79,9 @@ impl Reckoning {
     pub fn new(page: &[u8]) -> Reckoning {
         let values = values(page).expect("the reckoning begins with a blank or sound page");
         let empty = Stream { taken: Vec::new(), n: 0, last: number::USED_UP };
-        // "the working values, set as starting sets them; and the page's values, one or none under each code."
-        let started = |code: u8| values.value(code).unwrap_or(FACTORY.value(code));
+        // "the working values, set as starting sets them; and the page's values, one or none under each code." 02-05.3:
+        // "starting uses the factory value" where the page's is no longer taken.
+        let started = |code: u8| loaded(code, &values).unwrap_or(FACTORY.value(code));
         let settings = FACTORY
             .with(BAUD, started(BAUD))
             .with(ACCELEROMETER, started(ACCELEROMETER))

@@ -4,7 +4,7 @@
 //! 01-086: "A writer answers its number and the message's length, 0 where refused." 01-088: "A write to a room touches
 //! only the message's own bytes, from the room's front".
 
-use crate::handling::{allowed, codes_of, value_size, NUMBERED, PING};
+use crate::handling::{codes_of, usable, value_size, NUMBERED, PING};
 use crate::message::{bytes_of, message};
 use crate::number;
 
@@ -36,7 +36,8 @@ fn command_field(kind: u8, code: u8, function: u8, value: u32) -> Option<Vec<u8>
         return Some(vec![PING, 0]);
     }
     match function {
-        1 if allowed(code, value) => {
+        // 02-05.5: "The command writer refuses them (28)."
+        1 if usable(code, value) => {
             let size = value_size(code).expect("a setting has a value");
             let mut field = vec![code, 1 + size as u8, function];
             field.extend(bytes_of(value, size));

@@ -178,7 +178,7 @@ fn boards_of_any_contents() {
         let over = board.ports[0].held > 260 || board.ports[1].held > 260;
         let expected = if port > 1 {
             16
-        } else if over || !board.settings.allowed() {
+        } else if over || !board.settings.usable() {
             17
         } else if room.len() < 166 {
             18

@@ -29,19 +29,19 @@ fn rows_of(payload: &str) -> Vec<(u8, u8)> {
 /// 02-02.1: "the controller wants to send three settings at a time". Set, saved, and loaded after a restart.
 #[test]
 fn three_settings() {
-    let set = hex("A5A5020F 0105 01000E1000 0702 0104 0802 0107 A016");
+    let set = hex("A5A5020F 0105 01000E1000 0702 0104 0802 0105 9E14");
     let save = hex("A5A50209 010103 070103 080103 710B");
     let done = hex("A5A5020C 80020100 80020700 80020800 EE21");
     let mut both = Both::blank();
     let answer = fed(&mut both, &set);
     assert_eq!((&answer.reply, answer.saved), (&done, false));
-    let three = Settings { baud: 921600, accelerometer: 4, gyroscope: 7 };
+    let three = Settings { baud: 921600, accelerometer: 4, gyroscope: 5 };
     assert_eq!(both.board.settings, three);
     assert_eq!(both.page, [0xFF; 64]);
 
     let answer = fed(&mut both, &save);
     assert_eq!((&answer.reply, answer.saved), (&done, true));
-    assert_eq!(both.page, page_of("03 010A04 070E01 080F01 000E1000 04 07"));
+    assert_eq!(both.page, page_of("03 010A04 070E01 080F01 000E1000 04 05"));
 
     // Starting loads them, and so does function 4 after others were set.
     let mut both = Both::new(&both.page);
@@ -53,7 +53,7 @@ fn three_settings() {
     assert_eq!(both.board.settings, three);
 
     let answer = fed(&mut both, &hex("A5A50209 010102 070102 080102 6EFF"));
-    assert_eq!(answer.reply, hex("A5A50218 80020100 0104000E1000 80020700 070104 80020800 080107 3943"));
+    assert_eq!(answer.reply, hex("A5A50218 80020100 0104000E1000 80020700 070104 80020800 080105 3741"));
 }
 
 /// "1 to 16 fields": 17 and more get one row. Each count of Pings that L leaves room for, filled and with a byte more.
@@ -168,7 +168,7 @@ fn functions_and_sizes() {
     for (code, size) in [(0x01, 4), (0x07, 1), (0x08, 1)] {
         for function in (0..=6).chain([255]) {
             for more in 0..7 {
-                // Zeros are no allowed value, and are not looked at where the function is not 1.
+                // Zeros are no usable value, and are not looked at where the function is not 1.
                 let field = [vec![code, 1 + more as u8, function], vec![0; more]].concat();
                 let right = (2..=5).contains(&function) && (more == 0 || more == size);
                 let row = (code, if right { 0 } else { 4 });
@@ -199,8 +199,8 @@ fn later_fields_see_earlier_ones() {
     assert_eq!(both.page, page_of("01 070401 02"));
 
     // Two reports of one setting differ where it was set between them.
-    let answer = fed(&mut Both::blank(), &message(0x02, &hex("080102 08020107 080102 080105 080102")));
-    let expected = "80020800080103 80020800 80020800080107 80020800 80020800080103";
+    let answer = fed(&mut Both::blank(), &message(0x02, &hex("080102 08020105 080102 080105 080102")));
+    let expected = "80020800080103 80020800 80020800080105 80020800 80020800080103";
     assert_eq!(answer.reply, message(0x02, &hex(expected)));
 }
 
@@ -243,7 +243,7 @@ fn longest_reply() {
     for _ in 0..50_000 {
         let received = if rng.chance(1, 2) { fields::several(&mut rng) } else { generate::piece(&mut rng) };
         if check_message(&received) == 0 {
-            let handled = handle(0, &received, generate::allowed_settings(&mut rng), generate::values(&mut rng));
+            let handled = handle(0, &received, generate::usable_settings(&mut rng), generate::values(&mut rng));
             assert!((1..=16).contains(&handled.rows.len()) && handled.reply.len() <= 166);
         }
     }

@@ -99,16 +99,18 @@ fn several_fields_reach_everything() {
             assert!([0, 3, 4].iter().all(|&error| errors.contains(&(kind, place, error, false))), "{place}");
         }
     }
-    assert!((0..16).all(|place| errors.contains(&(2, place, 0, true))));
+    assert!((0..16).all(|place| errors.contains(&(2, place, 0, true)) && errors.contains(&(2, place, 6, false))));
     assert!(saved > 10_000, "{saved}");
 }
 
-/// Of replies: each count of rows up to 16 is read in types 01, 02 and 7C, and each is refused where something is wrong.
+/// Of replies: each count of rows up to 16 is read in types 01, 02 and 7C, and each is refused where something is wrong;
+/// each error and each range of the gyroscope is read.
 #[test]
 fn replies_of_rows_reach_everything() {
     let mut rng = Rng::new(8);
     let mut read = BTreeSet::new();
     let mut refused = BTreeSet::new();
+    let (mut errors, mut ranges) = (BTreeSet::new(), BTreeSet::new());
     for turn in 0..300_000 {
         let reply = if turn % 3 == 0 { fields::reply_of_kind(&mut rng, 0x7C) } else { fields::reply_of_rows(&mut rng) };
         let kind = if reply[2] == 0x7C { 0x7C } else { reply[2].min(3) };
@@ -118,6 +120,9 @@ fn replies_of_rows_reach_everything() {
             refused.insert((kind, fields.map(|fields| fields.len())));
         } else {
             read.insert((kind, rows));
+            let last = read_reply(&reply, rows - 1);
+            errors.insert(last.error);
+            ranges.extend(last.value.filter(|_| last.echo == 0x08));
         }
     }
     for kind in [0x01, 0x02, 0x7C] {
@@ -125,6 +130,7 @@ fn replies_of_rows_reach_everything() {
         assert!((0..=18).all(|fields| refused.contains(&(kind, Some(fields)))) && refused.contains(&(kind, None)));
     }
     assert!(read.contains(&(3, 1)) && !read.contains(&(3, 2)));
+    assert!(errors.into_iter().eq(0..=6) && ranges.into_iter().eq(1..=7));
 }
 
 /// Three settings at a time: what is used is saved, and loaded after others were used.
@@ -180,7 +186,7 @@ fn runs() {
 fn lists_reach_everything() {
     let mut rng = Rng::new(4);
     let mut numbers = [0; 32];
-    let mut errors = [0; 5];
+    let mut errors = [0; 7];
     let mut saves = 0;
     let mut from_held = 0;
     let mut most_held = 0;
@@ -204,7 +210,8 @@ fn lists_reach_everything() {
         }
     }
     assert!([0, 1, 16, 18].iter().all(|&number| numbers[number] > 1000), "{numbers:?}");
-    assert!(errors.iter().all(|&count| count > 500), "{errors:?}");
+    assert!([0, 1, 2, 3, 4].iter().all(|&error| errors[error] > 500), "{errors:?}");
+    assert!(errors[6] > 100, "{errors:?}");
     assert!(saves > 400 && from_held > 400 && reports > 400, "{saves} {from_held} {reports}");
     assert!(most_held > 255, "{most_held}");
 }
@@ -254,8 +261,8 @@ fn histories_reach_everything() {
         reached.run(page, &list);
     }
     for port in [0, 1] {
-        assert!((0..=5).all(|error| reached.rows.contains(&(port, 0x7C, error))), "{:?}", reached.rows);
-        assert!([0, 1, 3, 4].iter().all(|&error| reached.rows.contains(&(port, 0x02, error))), "{:?}", reached.rows);
+        assert!((0..=6).all(|error| reached.rows.contains(&(port, 0x7C, error))), "{:?}", reached.rows);
+        assert!([0, 1, 3, 4, 6].iter().all(|&error| reached.rows.contains(&(port, 0x02, error))), "{:?}", reached.rows);
     }
     assert!(reached.rows.contains(&(0, 0x02, 5)) && !reached.rows.contains(&(1, 0x02, 5)));
     let Reached { restarts, fresh, stale_after_restart, .. } = reached;

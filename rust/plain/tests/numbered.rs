@@ -257,11 +257,11 @@ fn restarts() {
         both.restart();
         assert_eq!((both.board.settings, &both.page), (Settings { accelerometer: 4, ..FACTORY }, &page));
         for number in [0, 4, 5] {
-            let answer = fed(&mut both, 0, &numbered(number, 0x02, &hex("08020107")));
+            let answer = fed(&mut both, 0, &numbered(number, 0x02, &hex("08020105")));
             assert_eq!((rows(&answer.reply), answer.saved), (vec![(8, 5)], false));
         }
     }
-    assert_eq!(rows(&fed(&mut both, 0, &numbered(6, 0x02, &hex("08020107"))).reply), [(8, 0)]);
+    assert_eq!(rows(&fed(&mut both, 0, &numbered(6, 0x02, &hex("08020105"))).reply), [(8, 0)]);
     assert_eq!(kept(&both), Some(6));
 }
 
@@ -289,7 +289,7 @@ fn unnumbered() {
     for (code, size) in [(0x01, 4), (0x07, 1), (0x08, 1)] {
         for function in 0..=255u8 {
             for more in 0..7 {
-                // Zeros are no allowed value.
+                // Zeros are no usable value.
                 let field = [vec![code, 1 + more as u8, function], vec![0; more]].concat();
                 let own = if (2..=5).contains(&function) && (more == 0 || more == size) { 0 } else { 4 };
                 let refused = [1, 3, 4, 5].contains(&function);
@@ -329,27 +329,27 @@ fn unnumbered() {
 #[test]
 fn unnumbered_fields() {
     let payload = hex("07020104 080102 070103 6300 010104 0700 080105 080106 070102");
-    let page = page_of("03 070A01 080B01 700C04 03 06 00000009");
+    let page = page_of("03 070A01 080B01 700C04 03 04 00000009");
     let mut both = Both::new(&page);
     let before = both.board.settings;
-    assert_eq!(before, Settings { baud: 115200, accelerometer: 3, gyroscope: 6 });
+    assert_eq!(before, Settings { baud: 115200, accelerometer: 3, gyroscope: 4 });
     let answer = fed(&mut both, 0, &message(0x02, &payload));
-    let reply = "80020705 80020800080106 80020705 80026303 80020105 80020704 80020805 80020804 80020700070103";
+    let reply = "80020705 80020800080104 80020705 80026303 80020105 80020704 80020805 80020804 80020700070103";
     assert_eq!((answer.reply, answer.saved), (message(0x02, &hex(reply)), false));
     assert_eq!((both.board.settings, &both.page), (before, &page));
 
     // On port 1 all of it is done, and the number stays.
     let answer = fed(&mut both, 1, &message(0x02, &payload));
-    let reply = "80020700 80020800080106 80020700 80026303 80020100 80020704 80020800 80020804 80020700070104";
+    let reply = "80020700 80020800080104 80020700 80026303 80020100 80020704 80020800 80020804 80020700070104";
     assert_eq!((answer.reply, answer.saved), (message(0x02, &hex(reply)), true));
     assert_eq!(both.board.settings, Settings { baud: 115200, accelerometer: 4, gyroscope: 3 });
-    assert_eq!(both.page, page_of("03 070A01 080B01 700C04 04 06 00000009"));
+    assert_eq!(both.page, page_of("03 070A01 080B01 700C04 04 04 00000009"));
 
     // With a number port 0 does it, too.
     let mut both = Both::new(&page);
     let answer = fed(&mut both, 0, &numbered(10, 0x02, &payload));
     assert_eq!((answer.reply, answer.saved), (message(0x7C, &hex(reply)), true));
-    assert_eq!(both.page, page_of("03 070A01 080B01 700C04 04 06 0000000A"));
+    assert_eq!(both.page, page_of("03 070A01 080B01 700C04 04 04 0000000A"));
 }
 
 /// The entry decides, not the number and not who wrote it: the first number, on either port, ends what port 0 takes
@@ -429,8 +429,8 @@ fn day(first: u32) -> Vec<Vec<u8>> {
     vec![
         written(first, 0x07, 1, 4),
         written(first + 1, 0x07, 3, 0),
-        numbered(first + 2, 0x02, &hex("010501000E1000 08020107 080103")),
-        numbered(first + 3, 0x02, &hex("07020105")), // a range that is not allowed
+        numbered(first + 2, 0x02, &hex("010501000E1000 08020105 080103")),
+        numbered(first + 3, 0x02, &hex("07020105")), // a range that is not usable
         numbered(first + 4, 0x55, &hex("07020101")), // no such type
         numbered(first + 5, 0x02, &[]),              // no field
         written(first + 6, 0x08, 4, 0),
@@ -452,12 +452,12 @@ fn replay_after_a_power_cut() {
     let yesterday = day(1000);
     let errors: Vec<u8> = yesterday.iter().map(|bytes| rows(&fed(&mut both, 0, bytes).reply)[0].1).collect();
     assert_eq!(errors, [0, 0, 0, 4, 2, 3, 0, 0, 0, 0]);
-    assert_eq!(both.board.settings, Settings { baud: 921600, accelerometer: 2, gyroscope: 7 });
-    let page = page_of("03 070A01 080B01 700C04 04 07 000003F1");
+    assert_eq!(both.board.settings, Settings { baud: 921600, accelerometer: 2, gyroscope: 5 });
+    let page = page_of("03 070A01 080B01 700C04 04 05 000003F1");
     assert_eq!(both.page, page);
 
     both.restart();
-    let settings = Settings { baud: 115200, accelerometer: 4, gyroscope: 7 };
+    let settings = Settings { baud: 115200, accelerometer: 4, gyroscope: 5 };
     assert_eq!((both.board.settings, &both.page), (settings, &page));
     for port in [0, 1] {
         for bytes in &yesterday {
@@ -477,8 +477,8 @@ fn replay_without_numbers() {
     let mut both = Both::blank();
     day(1000).iter().for_each(|bytes| drop(fed(&mut both, 0, bytes)));
     both.restart();
-    let page = page_of("03 070A01 080B01 700C04 04 07 000003F1");
-    let settings = Settings { baud: 115200, accelerometer: 4, gyroscope: 7 };
+    let page = page_of("03 070A01 080B01 700C04 04 05 000003F1");
+    let settings = Settings { baud: 115200, accelerometer: 4, gyroscope: 5 };
     let errors = |both: &mut Both, port| -> Vec<Vec<u8>> {
         let rows = |bytes: &Vec<u8>| rows(&fed(both, port, bytes).reply).iter().map(|row| row.1).collect();
         without_numbers(&day(1000)).iter().map(rows).collect()
@@ -585,24 +585,27 @@ fn numbered_writer() {
     assert_eq!(write_numbered(1, 0x07, 1, 3, &mut room[..14]), (18, 0));
 }
 
-/// What the writer writes, with a fresh number, has its command's effect and spends the number.
+/// What the writer writes, with a fresh number, has its command's effect and spends the number. It is accepted, but for
+/// function 4 on a page with a range that is no longer taken.
 #[test]
 fn written_is_handled() {
     let mut rng = Rng::new(0x0301);
     for _ in 0..5000 {
         let code = rng.pick(&[0x01, 0x02, 0x07, 0x08]);
-        let (function, value) = (rng.between(1, 5) as u8, generate::allowed_value(&mut rng, code));
+        let (function, value) = (rng.between(1, 5) as u8, generate::usable_value(&mut rng, code));
         let values = numbered::values(&mut rng);
         let Some(number) = values.last_number.map_or(Some(0), |last| last.checked_add(1)) else { continue };
         let (mut with, mut without) = ([0; 32], [0; 32]);
         let (_, length) = write_numbered(number, code, function, value, &mut with);
         let (_, other) = write_command(code, function, value, &mut without);
-        let settings = generate::allowed_settings(&mut rng);
+        let settings = generate::usable_settings(&mut rng);
         let spent = Values { last_number: Some(number), ..values };
         let handled = handle(rng.below(2) as u8, &with[..length], settings, values);
         let expected = handle(1, &without[..other], settings, spent);
         assert_eq!(handled.rows, expected.rows);
-        assert!(handled.saved && handled.rows[0].error == 0);
+        let held = values.gyroscope.filter(|_| code == 0x08 && function == 4);
+        assert_eq!(handled.rows[0].error, if matches!(held, Some(6 | 7)) { 6 } else { 0 });
+        assert!(handled.saved);
         assert_eq!((handled.settings, handled.values), (expected.settings, expected.values));
         assert_eq!(handled.values.last_number, Some(number));
     }
@@ -620,7 +623,8 @@ fn replies() {
     assert_eq!(read_reply(&reply, 4).number, 27);
     for kind in [0x00, 0x01, 0x02, 0x7C, 0xFF] {
         assert_eq!(read_reply(&message(kind, &hex("80020705")), 0), row(kind, 7, 5, None));
-        assert_eq!(read_reply(&message(kind, &hex("80020706")), 0).number, 23);
+        assert_eq!(read_reply(&message(kind, &hex("80020706")), 0), row(kind, 7, 6, None));
+        assert_eq!(read_reply(&message(kind, &hex("80020707")), 0).number, 23);
         // A value stands in types 02 and 7C alone.
         let number = if kind == 0x02 || kind == 0x7C { 0 } else { 23 };
         assert_eq!(read_reply(&message(kind, &hex("80020700 070103")), 0).number, number);
@@ -635,7 +639,7 @@ fn replies() {
     for _ in 0..20_000 {
         let values = numbered::values(&mut rng);
         let received = numbered::command(&mut rng, values.last_number);
-        let handled = handle(0, &received, generate::allowed_settings(&mut rng), values);
+        let handled = handle(0, &received, generate::usable_settings(&mut rng), values);
         for (place, &Row { echo, error, value }) in handled.rows.iter().enumerate() {
             assert_eq!(read_reply(&handled.reply, place), row(0x7C, echo, error, value));
         }

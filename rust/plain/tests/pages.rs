@@ -6,7 +6,7 @@ use common::page_of;
 use plain::generate::{self, numbered, Rng, BAUDS};
 use plain::*;
 
-/// The writings of all allowed values without a number: 7 times 5 times 8.
+/// The writings of all storable values without a number: 7 times 5 times 8.
 fn writings() -> Vec<(Values, [u8; 64])> {
     let bauds = [None].into_iter().chain(BAUDS.map(Some));
     let mut all = Vec::new();
@@ -21,7 +21,7 @@ fn writings() -> Vec<(Values, [u8; 64])> {
     all
 }
 
-/// The values of which a page is the writing, searched for among all allowed ones: without a number, or with the one
+/// The values of which a page is the writing, searched for among all storable ones: without a number, or with the one
 /// that stands behind the bodies of the others.
 fn searched(all: &[(Values, [u8; 64])], page: &[u8]) -> Option<Values> {
     if page.len() != 64 {
@@ -54,7 +54,8 @@ fn sound_is_a_writing() {
         let expected = Settings {
             baud: written.baud.unwrap_or(115200),
             accelerometer: written.accelerometer.unwrap_or(2),
-            gyroscope: written.gyroscope.unwrap_or(3),
+            // 02-05.3: "starting uses the factory value".
+            gyroscope: written.gyroscope.filter(|&range| range != 6 && range != 7).unwrap_or(3),
         };
         assert_eq!(board, Board { ports: [Port::fresh(), Port::fresh()], settings: expected });
     }
@@ -86,7 +87,7 @@ fn numbers() {
         ("02 070701 700804 02 00000001", 0),
         ("03 070A01 080B01 700C04 02 03 00000001", 0),
         ("04 010D04 071101 081201 701304 0001C200 02 03 00000001", 0),
-        ("04 010D04 071101 081201 701304 0001C200 05 03 00000001", 20), // a range that is not allowed
+        ("04 010D04 071101 081201 701304 0001C200 05 03 00000001", 20), // a range that is not storable
         ("04 010D04 071101 081201 701304 0000E100 02 03 00000001", 20), // 57600
         ("01 700401 07", 20),                                           // one byte
         ("01 700403 000007", 20),                                       // three bytes
@@ -111,7 +112,8 @@ fn numbers() {
     let all = Values { baud: Some(921600), accelerometer: Some(4), gyroscope: Some(7), last_number: Some(0x01020304) };
     assert_eq!(read_page(&page), (0, all));
     assert_eq!(write_page(&all)[..], page);
-    assert_eq!(start(&page).1.settings, Settings { baud: 921600, accelerometer: 4, gyroscope: 7 });
+    // The range is read, but not taken (02-05.3).
+    assert_eq!(start(&page).1.settings, Settings { baud: 921600, accelerometer: 4, gyroscope: 3 });
     assert_eq!(body(&page, &factory_page(), 0x70), (0, &[1, 2, 3, 4][..]));
     // "the factory page has none", and a page without the entry has no number.
     assert_eq!(body(&factory_page(), &factory_page(), 0x70), (0, &[][..]));

@@ -17,7 +17,7 @@ fn command_writer() {
                 let size = value_size(code).unwrap_or(0);
                 let payload = match (code, function) {
                     (0x02, _) => Some(vec![0x02, 0]),
-                    (0x01 | 0x07 | 0x08, 1) if allowed(code, value) => {
+                    (0x01 | 0x07 | 0x08, 1) if usable(code, value) => {
                         Some([&[code, 1 + size as u8, 1], &value.to_be_bytes()[4 - size..]].concat())
                     }
                     (0x01 | 0x07 | 0x08, 2..=5) => Some(vec![code, 1, function]),
@@ -44,7 +44,7 @@ fn command_writer() {
             }
         }
     }
-    // A range over 255 is none of the allowed ones, and 28 comes before 18.
+    // A range over 255 is none of the usable ones, and 28 comes before 18.
     assert_eq!(write_command(0x08, 1, 0x103, &mut []), (28, 0));
     assert_eq!(write_command(0x08, 1, 0x003, &mut []), (18, 0));
 }
@@ -61,7 +61,7 @@ fn field_writer() {
                 let size = value_size(code).unwrap_or(0);
                 let field = match (kind, code, function) {
                     (1, 0x02, _) => Some(vec![0x02, 0]),
-                    (2, 0x01 | 0x07 | 0x08, 1) if allowed(code, value) => {
+                    (2, 0x01 | 0x07 | 0x08, 1) if usable(code, value) => {
                         Some([&[code, 1 + size as u8, 1], &value.to_be_bytes()[4 - size..]].concat())
                     }
                     (2, 0x01 | 0x07 | 0x08, 2..=5) => Some(vec![code, 1, function]),
@@ -92,12 +92,12 @@ fn field_writer() {
 fn payload_of_written_fields() {
     let mut payload = [0; 15];
     let mut length = 0;
-    for (code, value) in [(0x01, 921600), (0x07, 4), (0x08, 7)] {
+    for (code, value) in [(0x01, 921600), (0x07, 4), (0x08, 5)] {
         let answer = append_field(0x02, code, 1, value, length, &mut payload);
         assert_eq!(answer.0, 0);
         length = answer.1;
     }
-    assert_eq!(payload[..length], hex("010501000E1000 07020104 08020107"));
+    assert_eq!(payload[..length], hex("010501000E1000 07020104 08020105"));
     assert_eq!(append_field(0x02, 0x08, 2, 0, length, &mut payload), (18, 0));
     for length in [15, 16, 300, usize::MAX - 2, usize::MAX] {
         assert_eq!(append_field(0x01, 0x02, 0, 0, length, &mut payload), (18, 0));
@@ -106,9 +106,9 @@ fn payload_of_written_fields() {
     let mut room = [0; 261];
     assert_eq!(write_message(0x02, &payload, &mut room), (0, 21));
     let handled = handle(0, &room[..21], FACTORY, Values::default());
-    assert_eq!(handled.settings, Settings { baud: 921600, accelerometer: 4, gyroscope: 7 });
+    assert_eq!(handled.settings, Settings { baud: 921600, accelerometer: 4, gyroscope: 5 });
     assert_eq!(handled.rows.len(), 3);
-    // A range over 255 is none of the allowed ones.
+    // A range over 255 is none of the usable ones.
     assert_eq!(append_field(0x02, 0x08, 1, 0x103, 0, &mut payload), (28, 0));
 }
 
@@ -164,7 +164,7 @@ fn reply_reader() {
     assert_eq!(read_reply(&hex("A5A5A5048002020178A9"), 0), nothing(22));
 
     for error in 0..=255 {
-        let expected = if error <= 5 { reply(0x63, 9, error, None) } else { nothing(23) };
+        let expected = if error <= 6 { reply(0x63, 9, error, None) } else { nothing(23) };
         assert_eq!(read_reply(&message(0x63, &[0x80, 2, 9, error]), 0), expected);
     }
     assert_eq!(read_reply(&message(2, &hex("80020100 0104 0001C200")), 0), reply(2, 1, 0, Some(115200)));
@@ -182,13 +182,16 @@ fn no_replies() {
         (1, "80010200"),
         (1, "81020200"),
         (1, "8002020000"),
-        (2, "80020100 0104 0000E100"), // not allowed
+        (2, "80020100 0104 0000E100"), // not readable
         (1, "80020100 0104 0001C200"), // type 01
         (3, "80020100 0104 0001C200"), // type 03
         (2, "80020104 0104 0001C200"), // error 4
         (2, "80020100 0101 02"),       // not its value size
         (2, "80020700 0801 02"),       // not the echo
-        (2, "80020700 0701 05"),       // not allowed
+        (2, "80020700 0701 05"),       // not readable
+        (2, "80020800 0801 00"),       // not readable
+        (2, "80020800 0801 08"),       // not readable
+        (2, "80020806 0801 06"),       // error 6
         (2, "80020700 0701 0202"),     // something after it
         (2, "80020700 0702 0202"),     // not its value size
         (2, "80020700 0701"),          // cut off
@@ -253,12 +256,14 @@ fn wrong_rows() {
         (2, "80020700 070102 080102"), // two values
         (2, "80020200 020102"),        // of a code without a value
         (2, "80020700 0700"),          // of another size
-        (2, "80020700 070105"),        // not allowed
+        (2, "80020700 070105"),        // not readable
+        (2, "80020800 080108"),        // not readable
         (2, "8003070000"),             // 80 of size 3
         (2, "800107"),                 // 80 of size 1
         (2, "8000"),                   // 80 of size 0
-        (2, "80020706"),               // no error of the table
+        (2, "80020707"),               // no error of the table
         (2, "80020705 070102"),        // a value after error 5
+        (2, "80020806 080106"),        // a value after error 6
         (2, "070102"),                 // a value without a row
         (2, "80020700 07"),            // not filled
         (2, "80020700 80"),            // not filled
@@ -278,7 +283,7 @@ fn replies_are_read() {
     let mut rng = Rng::new(80);
     for turn in 0..40_000 {
         let received = if turn % 2 == 0 { generate::any_good(&mut rng) } else { fields::several(&mut rng) };
-        let settings = generate::allowed_settings(&mut rng);
+        let settings = generate::usable_settings(&mut rng);
         let handled = handle(0, &received, settings, generate::values(&mut rng));
         for (place, &Row { echo, error, value }) in handled.rows.iter().enumerate() {
             let expected = Reply { number: 0, kind: received[2], echo, error, value };

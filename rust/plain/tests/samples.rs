@@ -199,19 +199,19 @@ fn held() {
     }
 }
 
-/// "gyro 0, 1, 7, 8", and the other ranges
+/// "gyro 0, 1, 7, 8", and the other ranges; since 02-05.7 06 and 07 are "not on this board".
 #[test]
 fn ranges() {
-    for (value, expected) in [(0, 4), (1, 0), (7, 0), (8, 4), (255, 4)] {
+    for (value, expected) in [(0, 4), (1, 0), (5, 0), (6, 6), (7, 6), (8, 4), (255, 4)] {
         assert_eq!(error(0x02, &[0x08, 2, 1, value]), expected);
     }
     for (value, expected) in [(0, 4), (1, 0), (4, 0), (5, 4), (255, 4)] {
         assert_eq!(error(0x02, &[0x07, 2, 1, value]), expected);
     }
     let mut both = Both::blank();
-    both.feed(0, &message(0x02, &[0x08, 2, 1, 7]));
+    both.feed(0, &message(0x02, &[0x08, 2, 1, 5]));
     both.feed(1, &message(0x02, &[0x07, 2, 1, 4]));
-    assert_eq!(both.board.settings, Settings { baud: 115200, accelerometer: 4, gyroscope: 7 });
+    assert_eq!(both.board.settings, Settings { baud: 115200, accelerometer: 4, gyroscope: 5 });
 }
 
 /// "function 0, 5, 6"
@@ -225,7 +225,7 @@ fn functions() {
         for function in 0..=255u8 {
             for more in 0..7 {
                 let mut payload = vec![code, 1 + more as u8, function];
-                // A value that is not allowed, and is not looked at where the function is not 1.
+                // A value that is not usable, and is not looked at where the function is not 1.
                 payload.resize(3 + more, 0x00);
                 let expected = if (2..=5).contains(&function) && (more == 0 || more == size) { 0 } else { 4 };
                 assert_eq!(error(0x02, &payload), expected);
@@ -238,13 +238,13 @@ fn functions() {
     // Function 5 takes the factory value, function 4 the page's, function 3 saves the working value and not the one
     // sent.
     let mut both = Both::blank();
-    both.feed(0, &message(0x02, &[0x08, 2, 1, 6]));
+    both.feed(0, &message(0x02, &[0x08, 2, 1, 4]));
     assert!(both.feed(0, &message(0x02, &[0x08, 2, 3, 1])).saved);
-    assert_eq!(both.page, page_of("01 080401 06"));
+    assert_eq!(both.page, page_of("01 080401 04"));
     assert!(!both.feed(0, &message(0x02, &[0x08, 2, 5, 0])).saved);
     assert_eq!(both.board.settings, FACTORY);
     both.feed(0, &message(0x02, &[0x08, 1, 4]));
-    assert_eq!(both.board.settings.gyroscope, 6);
+    assert_eq!(both.board.settings.gyroscope, 4);
     both.feed(0, &message(0x02, &[0x07, 2, 1, 1]));
     assert_eq!(both.board.settings.accelerometer, 1);
     // The page has no entry 07: from the factory page.
@@ -341,8 +341,8 @@ fn pages() {
             assert_eq!(fed_page, page);
         }
     }
-    let (_, board) = start(&page_of("02 010704 080B01 000E1000 07"));
-    assert_eq!(board.settings, Settings { baud: 921600, accelerometer: 2, gyroscope: 7 });
+    let (_, board) = start(&page_of("02 010704 080B01 000E1000 05"));
+    assert_eq!(board.settings, Settings { baud: 921600, accelerometer: 2, gyroscope: 5 });
 }
 
 /// "comparing the size byte before the code (L = 4 with code 63 and wrong size is 3)": where the fields fill the

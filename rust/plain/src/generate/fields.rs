@@ -2,8 +2,8 @@
 //!
 //! They stand beside the generators of single commands, whose material is not to change.
 
-use super::{accepted_command, allowed_value, code, damage, kind, offered, piece, value, with_restarts};
-use super::{Call, Rng, Step};
+use super::{accepted_command, code, damage, kind, listed_value, offered, piece, ranges, usable_value, value};
+use super::{with_restarts, Call, Rng, Step};
 use crate::message::bytes_of;
 use crate::{message, value_size};
 
@@ -34,14 +34,14 @@ pub fn setting(code: u8, function: u8, value: u32) -> Vec<u8> {
     [vec![code, 1 + size as u8, function], bytes_of(value, size)].concat()
 }
 
-/// A field that the board accepts in a message of this type, 01 or else 02.
+/// A field that the board accepts in a message of this type, 01 or else 02, where its page has no range of an older board.
 pub fn accepted_field(rng: &mut Rng, kind: u8) -> Vec<u8> {
     if kind == 0x01 {
         return vec![0x02, 0];
     }
     let code = rng.pick(&SETTINGS);
     match rng.between(1, 5) as u8 {
-        1 => setting(code, 1, allowed_value(rng, code)),
+        1 => setting(code, 1, usable_value(rng, code)),
         function if rng.chance(1, 3) => setting(code, function, rng.word() as u32),
         function => vec![code, 1, function],
     }
@@ -65,6 +65,7 @@ pub fn field(rng: &mut Rng, kind: u8) -> Vec<u8> {
             let size = value_size(code).unwrap_or(0);
             [vec![function], bytes_of(value(rng, code), size)].concat()
         }
+        3 if kind != 0x01 => return ranges::field(rng),
         _ => return accepted_field(rng, kind),
     };
     [vec![code, data.len() as u8], data].concat()
@@ -126,7 +127,7 @@ pub fn several(rng: &mut Rng) -> Vec<u8> {
     message(kind, &row(rng, kind, count))
 }
 
-/// The three settings in any order, each with this function; function 1 with an allowed value.
+/// The three settings in any order, each with this function; function 1 with a usable value.
 pub fn three(rng: &mut Rng, function: u8) -> Vec<u8> {
     let mut codes = SETTINGS;
     codes.rotate_left(rng.below(3));
@@ -134,7 +135,7 @@ pub fn three(rng: &mut Rng, function: u8) -> Vec<u8> {
         codes.swap(0, 1);
     }
     let field = |code| match function {
-        1 => setting(code, 1, allowed_value(rng, code)),
+        1 => setting(code, 1, usable_value(rng, code)),
         _ => vec![code, 1, function],
     };
     codes.into_iter().flat_map(field).collect()
@@ -182,22 +183,22 @@ pub fn steps_with_fields(rng: &mut Rng, page: &[u8], pieces: usize) -> Vec<Step>
 
 // Replies.
 
-/// The field of a value of this code, allowed or any.
+/// The field of a value of this code, readable or any.
 fn value_field(rng: &mut Rng, code: u8) -> Vec<u8> {
     let size = value_size(code).unwrap_or(1);
-    let value = if rng.chance(7, 8) { allowed_value(rng, code) } else { value(rng, code) };
+    let value = if rng.chance(7, 8) { listed_value(rng, code) } else { value(rng, code) };
     [vec![code, size as u8], bytes_of(value, size)].concat()
 }
 
-/// A row as a board writes it in a reply of this type.
+/// A row as a board writes it in a reply of this type, this one or an older one.
 fn right_row(rng: &mut Rng, kind: u8) -> Vec<u8> {
     if (kind == 0x02 || kind == 0x7C) && rng.chance(1, 2) {
         let code = rng.pick(&SETTINGS);
         let size = value_size(code).expect("a setting has a value");
-        let value = allowed_value(rng, code);
+        let value = listed_value(rng, code);
         return [vec![0x80, 2, code, 0, code, size as u8], bytes_of(value, size)].concat();
     }
-    vec![0x80, 2, code(rng), rng.below(6) as u8]
+    vec![0x80, 2, code(rng), rng.below(7) as u8]
 }
 
 /// A row that is mostly wrong: the field 80, its size or error, or the value behind it.
@@ -208,10 +209,10 @@ fn wrong_row(rng: &mut Rng) -> Vec<u8> {
     match rng.below(9) {
         0 => [vec![0x80, 3, code, 0], rng.bytes(1)].concat(),
         1 => vec![0x80, 1, code],
-        2 => first(rng.between(6, 255) as u8),
+        2 => first(if rng.chance(1, 2) { 7 } else { rng.between(7, 255) as u8 }),
         3 => vec![rng.byte(), 2, code, 0],
         // A value after an error, of another code, twice, of a code that has none, and of another size.
-        4 => [first(rng.between(1, 5) as u8), value_field(rng, code)].concat(),
+        4 => [first(rng.between(1, 6) as u8), value_field(rng, code)].concat(),
         5 => [first(0), value_field(rng, other)].concat(),
         6 => [first(0), value_field(rng, code), value_field(rng, code)].concat(),
         7 => [vec![0x80, 2, other, 0], value_field(rng, other)].concat(),

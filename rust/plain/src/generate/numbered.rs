@@ -3,7 +3,7 @@
 //! They stand beside the generators of commands without a number, whose material is not to change.
 
 use super::{
-    accepted_command, chunk_length, damage, fields, mutated, other_length, page_of_entries, piece, port, room,
+    accepted_command, chunk_length, damage, fields, mutated, other_length, page_of_entries, piece, port, ranges, room,
 };
 use super::{code, value, Board, Call, Rng, Step};
 use crate::message::{bytes_of, number_of, payload_of};
@@ -87,7 +87,7 @@ pub fn inner_fields(rng: &mut Rng, kind: u8) -> Vec<u8> {
     }
 }
 
-/// A command that the board accepts, its number being fresh.
+/// A command of a field that the board accepts, its number being fresh.
 pub fn accepted(rng: &mut Rng, number: u32) -> Vec<u8> {
     let kind = rng.pick(&[0x01, 0x02, 0x02, 0x02, 0x02]);
     numbered(number, kind, &fields::accepted_field(rng, kind))
@@ -111,7 +111,7 @@ pub fn command(rng: &mut Rng, last: Option<u32>) -> Vec<u8> {
 
 /// One piece of a stream: numbered commands, damaged ones, and others.
 pub fn numbered_piece(rng: &mut Rng, last: Option<u32>) -> Vec<u8> {
-    match rng.below(12) {
+    match rng.below(13) {
         0..=5 => command(rng, last),
         6 => {
             let whole = command(rng, last);
@@ -120,6 +120,7 @@ pub fn numbered_piece(rng: &mut Rng, last: Option<u32>) -> Vec<u8> {
         7 => fields::several(rng),
         8 | 9 => accepted_command(rng),
         10 => fields::three_settings(rng),
+        11 => ranges::command(rng, last),
         _ => piece(rng),
     }
 }
@@ -140,7 +141,7 @@ pub fn stream(rng: &mut Rng, pieces: usize) -> Vec<u8> {
 
 // Pages.
 
-/// Allowed values under any of the four codes; mostly with a number.
+/// Storable values under any of the four codes; mostly with a number.
 pub fn values(rng: &mut Rng) -> Values {
     let last_number = rng.chance(7, 8).then(|| kept(rng));
     Values { last_number, ..super::values(rng) }
@@ -152,7 +153,7 @@ pub fn sound_page(rng: &mut Rng) -> [u8; 64] {
 }
 
 /// The writing of any entries, entry 70 among them: the codes in another order, twice the same, unknown ones, values
-/// that are not allowed, bodies of wrong sizes, five entries and more.
+/// that are not storable, bodies of wrong sizes, five entries and more.
 pub fn odd_page(rng: &mut Rng) -> [u8; 64] {
     let mut entries: Vec<(u8, Vec<u8>)> = Vec::new();
     let skipped = rng.below(4);
@@ -195,8 +196,12 @@ pub fn page(rng: &mut Rng) -> Vec<u8> {
 
 // Histories.
 
+/// What makes a piece for a board whose page keeps this number.
+pub type PieceOf = fn(&mut Rng, Option<u32>) -> Vec<u8>;
+
 /// What a history has come to, told by the plain feed.
 struct History {
+    piece: PieceOf,
     board: Board,
     page: Vec<u8>,
     /// What each port has still to be given.
@@ -212,7 +217,7 @@ impl History {
         let last = crate::values(&self.page).and_then(|values| values.last_number);
         let piece = match rng.chance(1, 4) && !self.sent.is_empty() {
             true => self.sent[rng.below(self.sent.len())].clone(),
-            false => numbered_piece(rng, last),
+            false => (self.piece)(rng, last),
         };
         self.waiting[port].extend(&piece);
         self.sent.push(piece);
@@ -246,8 +251,13 @@ impl History {
 /// A list of feeds and restarts over one page, which is blank or sound: so many pieces, on both ports, with numbers about
 /// the one that the page keeps at the time, and with pieces that are sent again, before and after restarts.
 pub fn history(rng: &mut Rng, page: &[u8], pieces: usize) -> Vec<Step> {
-    let (board, page) = (start(page).1, page.to_vec());
-    let mut history = History { board, page, waiting: [Vec::new(), Vec::new()], sent: Vec::new(), steps: Vec::new() };
+    history_of(rng, page, pieces, numbered_piece)
+}
+
+/// Such a list of these pieces.
+pub fn history_of(rng: &mut Rng, page: &[u8], pieces: usize, piece: PieceOf) -> Vec<Step> {
+    let (board, page, waiting) = (start(page).1, page.to_vec(), [Vec::new(), Vec::new()]);
+    let mut history = History { piece, board, page, waiting, sent: Vec::new(), steps: Vec::new() };
     let mut left = pieces;
     // Even if each feed were refused, the list ends.
     let most = 40 + 60 * pieces;

@@ -3,10 +3,6 @@ use Rattle.board.proofs.Starts.{number-16, number-first, number-second,
 use borrow.Author.Needs.{needs}
 use Rattle.board.proofs.feeding.feed_number.Statement.{statement}
 use Rattle.board.proofs.feeding.feed_number.Tie as tie
-use Rattle.board.proofs.feeding.feed_number.Reads as reads
-use Rattle.board.proofs.feeding.feed_number.Lts as lts
-use Rattle.command.proofs.settings_allowed.Reads as settings-allowed-reads
-use Rattle.page.proofs.check_page.Reads as check-page-reads
 
 -- src/feeding.rt:20:9
 returns : tie.Need-returns
@@ -21,8 +17,8 @@ returns-3 : tie.Need-returns-3
 returns-3 c = search (number-second, needs)
 
 -- src/feeding.rt:28:9
-settings-allowed-requires : tie.Need-settings-allowed-requires
-settings-allowed-requires c κs = search needs
+settings-usable-requires : tie.Need-settings-usable-requires
+settings-usable-requires c κs = search needs
 
 -- src/feeding.rt:29:9
 returns-4 : tie.Need-returns-4
@@ -47,7 +43,7 @@ feed-number-spec =
     returns
     returns-2
     returns-3
-    settings-allowed-requires
+    settings-usable-requires
     returns-4
     returns-5
     check-page-requires

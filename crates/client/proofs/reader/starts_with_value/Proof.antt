@@ -48,8 +48,8 @@ part-number-of-end c = search needs
 number-of-requires : tie.Need-number-of-requires
 number-of-requires c κs = search needs
 
-allowed-requires : tie.Need-allowed-requires
-allowed-requires c κs = search needs
+readable-requires : tie.Need-readable-requires
+readable-requires c κs = search needs
 
 returns-4 : tie.Need-returns-4
 returns-4 c = search (front-value, needs)
@@ -72,5 +72,5 @@ starts-with-value-spec =
     part-number-of-start
     part-number-of-end
     number-of-requires
-    allowed-requires
+    readable-requires
     returns-4)

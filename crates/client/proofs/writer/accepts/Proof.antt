@@ -4,8 +4,8 @@ use borrow.Author.Needs.{needs}
 use Rattle.client.proofs.writer.accepts.Statement.{statement}
 use Rattle.client.proofs.writer.accepts.Tie as tie
 
-allowed-requires : tie.Need-allowed-requires
-allowed-requires c κs = search needs
+usable-requires : tie.Need-usable-requires
+usable-requires c κs = search needs
 
 returns : tie.Need-returns
 returns c = search (accepts-value, needs)
@@ -17,4 +17,4 @@ returns-3 : tie.Need-returns-3
 returns-3 c = search (accepts-other, needs)
 
 pub accepts-spec : {M : Type 1} → statement M
-accepts-spec = tie.close (tie.spec allowed-requires returns returns-2 returns-3)
+accepts-spec = tie.close (tie.spec usable-requires returns returns-2 returns-3)

@@ -1,5 +1,5 @@
 -- `command::answer::answer_field` meets its contract, by the error and by what the field is about.
-use Rattle.command.proofs.Answers.{field-refused, field-ready, field-ping, field-setting, field-unknown}
+use Rattle.command.proofs.Answers.{field-refused, field-ready, field-loads, field-ping, field-setting, field-unknown}
 use borrow.Author.Needs.{needs}
 use Rattle.command.proofs.answer.answer_field.Statement.{statement}
 use Rattle.command.proofs.answer.answer_field.Tie as tie
@@ -29,7 +29,7 @@ enum-known-s : tie.Need-enum-known-s
 enum-known-s c = search needs
 
 obey-requires : tie.Need-obey-requires
-obey-requires c κs = search (field-ready, needs)
+obey-requires c κs = (search (field-ready, needs), λ f. search (field-loads, f, needs))
 
 enum-told-2 : tie.Need-enum-told-2
 enum-told-2 c = search needs

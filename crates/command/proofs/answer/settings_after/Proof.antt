@@ -1,5 +1,6 @@
 -- `command::answer::settings_after` meets its contract, by the function.
 use Rattle.command.proofs.Answers.{factory-fits, after-use, after-load, after-none, after-factory}
+use Rattle.command.proofs.Loads.{loaded-there}
 use borrow.Author.Needs.{needs}
 use Rattle.command.proofs.answer.settings_after.Statement.{statement}
 use Rattle.command.proofs.answer.settings_after.Tie as tie
@@ -10,14 +11,16 @@ with-requires c κs = search needs
 returns : tie.Need-returns
 returns c = search (after-use, needs)
 
-loaded-from-requires : tie.Need-loaded-from-requires
-loaded-from-requires c κs = search needs
+looked-up-requires : tie.Need-looked-up-requires
+looked-up-requires c κs = search needs
 
 with-requires-2 : tie.Need-with-requires-2
 with-requires-2 c κs = search needs
 
 returns-2 : tie.Need-returns-2
-returns-2 c = search (after-load, needs)
+returns-2 c =
+    let there = c .before .before .before .before .before .pre .1 (c .before .before .if2 .taken) in
+    search (after-load, loaded-there, there, needs)
 
 returns-3 : tie.Need-returns-3
 returns-3 c = search (after-none, needs)
@@ -37,7 +40,7 @@ settings-after-spec =
     (tie.spec
     with-requires
     returns
-    loaded-from-requires
+    looked-up-requires
     with-requires-2
     returns-2
     returns-3

@@ -1,5 +1,5 @@
 -- `command::errors::field_error` meets its contract: each `return` is a test.
-use Rattle.command.proofs.Tests.{error-unknown, error-number, error-field, error-none}
+use Rattle.command.proofs.Tests.{error-unknown, error-number, error-own}
 use borrow.Author.Needs.{needs}
 use Rattle.command.proofs.errors.field_error.Statement.{statement}
 use Rattle.command.proofs.errors.field_error.Tie as tie
@@ -19,14 +19,11 @@ number-missing-requires c κs = search needs
 returns-2 : tie.Need-returns-2
 returns-2 c = search (error-number, needs)
 
-field-wrong-requires : tie.Need-field-wrong-requires
-field-wrong-requires c κs = search needs
+own-error-requires : tie.Need-own-error-requires
+own-error-requires c κs = search needs
 
 returns-3 : tie.Need-returns-3
-returns-3 c = search (error-field, needs)
-
-returns-4 : tie.Need-returns-4
-returns-4 c = search (error-none, needs)
+returns-3 c = search (error-own, needs)
 
 pub field-error-spec : {M : Type 1} → statement M
 field-error-spec =
@@ -37,6 +34,5 @@ field-error-spec =
     returns
     number-missing-requires
     returns-2
-    field-wrong-requires
-    returns-3
-    returns-4)
+    own-error-requires
+    returns-3)

@@ -4,14 +4,14 @@ use borrow.Author.Needs.{needs}
 use Rattle.command.proofs.settings.settings_from.Statement.{statement}
 use Rattle.command.proofs.settings.settings_from.Tie as tie
 
-loaded-from-requires : tie.Need-loaded-from-requires
-loaded-from-requires c κs = search needs
+start-value-requires : tie.Need-start-value-requires
+start-value-requires c κs = search needs
 
-loaded-from-requires-2 : tie.Need-loaded-from-requires-2
-loaded-from-requires-2 c κs = search needs
+start-value-requires-2 : tie.Need-start-value-requires-2
+start-value-requires-2 c κs = search needs
 
-loaded-from-requires-3 : tie.Need-loaded-from-requires-3
-loaded-from-requires-3 c κs = search needs
+start-value-requires-3 : tie.Need-start-value-requires-3
+start-value-requires-3 c κs = search needs
 
 cast-t6 : tie.Need-cast-t6
 cast-t6 c = search needs
@@ -26,9 +26,9 @@ pub settings-from-spec : {M : Type 1} → statement M
 settings-from-spec =
     tie.close
     (tie.spec
-    loaded-from-requires
-    loaded-from-requires-2
-    loaded-from-requires-3
+    start-value-requires
+    start-value-requires-2
+    start-value-requires-3
     cast-t6
     cast-t7
     returns)

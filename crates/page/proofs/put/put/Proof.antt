@@ -1,4 +1,4 @@
--- `page::put::put` meets its contract: a page of another size, values that are not allowed, and the page filled anew.
+-- `page::put::put` meets its contract: a page of another size, values that are not storable, and the page filled anew.
 use Rattle.page.proofs.Puts.{put-19, put-20, put-done}
 use borrow.Author.Needs.{needs}
 use Rattle.page.proofs.put.put.Statement.{statement}
@@ -13,8 +13,8 @@ values-of-requires c κs = search needs
 with-code-requires : tie.Need-with-code-requires
 with-code-requires c κs = search needs
 
-all-allowed-requires : tie.Need-all-allowed-requires
-all-allowed-requires c κs = search needs
+all-storable-requires : tie.Need-all-storable-requires
+all-storable-requires c κs = search needs
 
 same-length : tie.Need-same-length
 same-length c = search needs
@@ -38,7 +38,7 @@ put-spec =
     returns
     values-of-requires
     with-code-requires
-    all-allowed-requires
+    all-storable-requires
     same-length
     returns-2
     fill-page-requires

@@ -8,8 +8,8 @@ use Rattle.page.proofs.put.write_page.Tie as tie
 returns : tie.Need-returns
 returns c = search (refused-19, needs)
 
-all-allowed-requires : tie.Need-all-allowed-requires
-all-allowed-requires c κs = search needs
+all-storable-requires : tie.Need-all-storable-requires
+all-storable-requires c κs = search needs
 
 returns-2 : tie.Need-returns-2
 returns-2 c = search (refused-20, needs)
@@ -40,10 +40,10 @@ returns-3 c =
     let first = second .before .before .before .before in
     let blank = first .before .before .before .before in
     let accepted = blank .before .before in
-    let allowed = accepted .before in
-    let sized = allowed .before in
+    let usable = accepted .before in
+    let sized = usable .before in
     let start = sized .before .before in
-    all-put (start .args .values) (start .args .page .now) (sized .if1 .left) _ (allowed .all-allowed .ensures) (accepted .if2 .left) _ _ _ _ _
+    all-put (start .args .values) (start .args .page .now) (sized .if1 .left) _ (usable .all-storable .ensures) (accepted .if2 .left) _ _ _ _ _
     (blank .erase .ensures) (first .put-if-there .ensures) (second .put-if-there2 .ensures) (third .put-if-there3 .ensures) (fourth .put-if-there4 .ensures)
 
 pub write-page-spec : {M : Type 1} → statement M
@@ -51,7 +51,7 @@ write-page-spec =
     tie.close
     (tie.spec
     returns
-    all-allowed-requires
+    all-storable-requires
     returns-2
     erase-requires
     put-if-there-requires
