@@ -100,7 +100,7 @@ static void write_day(void) {
     length = ketphiroj_append_field(0x02, 0x01, 1, 921600, length, three, sizeof three).length;
     length = ketphiroj_append_field(0x02, 0x08, 1, 5, length, three, sizeof three).length;
     length = ketphiroj_append_field(0x02, 0x08, 3, 0, length, three, sizeof three).length;
-    static const uint8_t range_8[] = {0x02, 0x08, 0x02, 0x01, 0x08}; /* this board has 1 to 5, older ones 6 and 7 */
+    static const uint8_t range_8[] = {0x02, 0x08, 0x02, 0x01, 0x08}; /* this board has 1 to 5, older ones 1 to 7 */
     static const uint8_t type_03[] = {0x03, 0x08, 0x02, 0x01, 0x01};
     add(0x07, 1, 4);
     add(0x07, 3, 0);

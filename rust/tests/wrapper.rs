@@ -443,8 +443,8 @@ fn old_page_and_numbers() {
     assert_eq!(driver.errors(0, &load(2)), [0]);
 }
 
-/// What is sent with function 1: 6 and 7 are error 6 where the size is right; other ranges that no board has are 4. The
-/// value sent with function 4 is not looked at.
+/// What is sent with function 1: 6 and 7 are error 6 where the size is right; ranges that no board has are 4. The value
+/// sent with function 4 is not looked at.
 #[test]
 fn ranges_sent() {
     for (field, error) in [

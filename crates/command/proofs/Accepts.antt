@@ -7,7 +7,7 @@ use lib.Dec.{eqb}
 use borrow.Author.Tests.{not-false, eq-eqb}
 use Rattle.page.specs.declared.setting.Setting.{Setting}
 use Rattle.page.specs.declared.setting.Stored.{Stored}
-use Rattle.page.specs.Settings.{usable, storable, notHere}
+use Rattle.page.specs.Settings.{usable, storable, notOnThisBoard}
 use Rattle.page.specs.Page.{isThere}
 use Rattle.message.specs.Whole.{refuse}
 use Rattle.command.specs.declared.command.Command.{Command}
@@ -53,14 +53,14 @@ accepted needs loaded c e =
 
 -- An accepted command about a setting: under function 1 the value sent is usable, and under function 4 a value is loaded.
 module _ (loaded : Setting → Stored) (c : Command) (s : Setting) (on : notOnBoard (About s) loaded c ≡ false) where
-  tests : (eqb (c .function) 1 && notHere s (valueFor s c) ≡ false) × (eqb (c .function) 4 && not (isThere (loaded s)) ≡ false)
-  tests = or-neither (eqb (c .function) 1 && notHere s (valueFor s c)) (eqb (c .function) 4 && not (isThere (loaded s))) on
+  tests : (eqb (c .function) 1 && notOnThisBoard s (valueFor s c) ≡ false) × (eqb (c .function) 4 && not (isThere (loaded s)) ≡ false)
+  tests = or-neither (eqb (c .function) 1 && notOnThisBoard s (valueFor s c)) (eqb (c .function) 4 && not (isThere (loaded s))) on
 
   pub sent-usable : valueRight (About s) c ≡ true → c .function ≡ 1 → usable s (valueFor s c) ≡ true
   sent-usable v f =
       let one : eqb (c .function) 1 ≡ true = eq-eqb (c .function) 1 f in
       let st : storable s (valueFor s c) ≡ true = subst (λ (b : Bool). not b || storable s (valueFor s c) ≡ true) one v in
-      let h : notHere s (valueFor s c) ≡ false = subst (λ (b : Bool). b && notHere s (valueFor s c) ≡ false) one (tests .0) in
+      let h : notOnThisBoard s (valueFor s c) ≡ false = subst (λ (b : Bool). b && notOnThisBoard s (valueFor s c) ≡ false) one (tests .0) in
       not-false (usable s (valueFor s c)) (subst (λ (b : Bool). b && not (usable s (valueFor s c)) ≡ false) st h)
 
   pub something-loaded : c .function ≡ 4 → isThere (loaded s) ≡ true

@@ -14,7 +14,7 @@ use Rattle.page.specs.declared.setting.Setting.the-variants.{Baud, Acceleromete
 use Rattle.page.specs.declared.setting.Stored.{Stored}
 use Rattle.page.specs.declared.setting.Stored.the-variants.{Absent, Value}
 use Rattle.page.specs.declared.setting.Values.{Values}
-use Rattle.page.specs.Settings.{usable, storable, notHere, valueBytes, factoryValue, valueOf, lastNumber}
+use Rattle.page.specs.Settings.{usable, storable, notOnThisBoard, valueBytes, factoryValue, valueOf, lastNumber}
 use Rattle.page.specs.Page.{isThere, storedIn, allStorable, withKey, writing, pageSize}
 use Rattle.page.specs.Lookup.{valuesIn}
 use Rattle.page.specs.Sound.{sound, pageWriting, putPage}
@@ -98,14 +98,14 @@ module _ (guarded : Bool) (x : State (List ℕ)) (c : Command) (s : Setting) whe
   refused-with n e = rw e
 
   module _ (a : Asks guarded x c s 1) where
-    error-one : error ≡ refuse (not (storable s (valueFor s c))) 4 (refuse (notHere s (valueFor s c)) 6 0)
+    error-one : error ≡ refuse (not (storable s (valueFor s c))) 4 (refuse (notOnThisBoard s (valueFor s c)) 6 0)
     unfolding error fieldError fieldWrong
     error-one =
         let one : eqb (c .function) 1 ≡ true = eq-eqb (c .function) 1 (a .function-is) in
         let four : eqb (c .function) 4 ≡ false = ne-eqb (c .function) 4 (λ f. omega (arith, a .function-is)) in
         let low : leb 1 (c .function) ≡ true = le-leb 1 (c .function) (omega (arith, a .function-is)) in
         let high : leb (c .function) 5 ≡ true = le-leb (c .function) 5 (omega (arith, a .function-is)) in
-        rw (a .about, a .free, a .size, low, high, one, four, or-false (notHere s (valueFor s c)))
+        rw (a .about, a .free, a .size, low, high, one, four, or-false (notOnThisBoard s (valueFor s c)))
 
     used-with : usable s (valueFor s c) ≡ true → fieldOutcome pageAccess guarded x c ≡ working x c s (valueFor s c)
     unfolding fieldOutcome error

@@ -12,7 +12,7 @@ use borrow.Author.Tests.{eq-eqb, ne-eqb, le-leb, lt-leb, le-ltb, lt-ltb, leb-tru
 use Rattle.page.specs.declared.setting.Setting.{Setting}
 use Rattle.page.specs.declared.setting.Setting.the-variants.{Baud, Accelerometer, Gyroscope}
 use Rattle.page.specs.declared.setting.Stored.{Stored}
-use Rattle.page.specs.Settings.{usable, storable, notHere, valueSize}
+use Rattle.page.specs.Settings.{usable, storable, notOnThisBoard, valueSize}
 use Rattle.page.specs.Page.{isThere}
 use Rattle.page.proofs.Pages.{usable-storable}
 use Rattle.command.specs.declared.settings.Settings.{Settings}
@@ -81,12 +81,12 @@ module _ (loaded : Setting → Stored) (s : Setting) (c : Command) (m : Bool) (m
   own-malformed e = rw (← ms, e)
 
   module _ (formed : m ≡ false) where
-    pub own-value : c .function ≡ 1 → (x : ℕ) → x ≡ valueFor s c → (r : ℕ) → r ≡ refuse (not (storable s x)) 4 (refuse (notHere s x) 6 0)
+    pub own-value : c .function ≡ 1 → (x : ℕ) → x ≡ valueFor s c → (r : ℕ) → r ≡ refuse (not (storable s x)) 4 (refuse (notOnThisBoard s x) 6 0)
         → r ≡ ownError (About s) loaded c
     unfolding fieldWrong
     own-value h x xs r rs =
         let n : eqb (c .function) 4 ≡ false = ne-eqb (c .function) 4 (λ f. omega arith) in
-        rs ∙ rw (← ms, formed, eq-eqb (c .function) 1 h, n, ← xs, or-false (notHere s x))
+        rs ∙ rw (← ms, formed, eq-eqb (c .function) 1 h, n, ← xs, or-false (notOnThisBoard s x))
 
     pub own-load : (c .function ≡ 1 → ⊥) → c .function ≡ 4 → (r : ℕ) → r ≡ refuse (not (isThere (loaded s))) 6 0 → r ≡ ownError (About s) loaded c
     unfolding fieldWrong
@@ -99,7 +99,7 @@ module _ (loaded : Setting → Stored) (s : Setting) (c : Command) (m : Bool) (m
 -- The error of a value sent with function 1.
 module _ (s : Setting) (x : ℕ) (a : Bool) (as′ : a ≡ usable s x) where
   abbrev valueError : ℕ
-  valueError = refuse (not (storable s x)) 4 (refuse (notHere s x) 6 0)
+  valueError = refuse (not (storable s x)) 4 (refuse (notOnThisBoard s x) 6 0)
 
   pub value-usable : a ≡ true → 0 ≡ valueError
   value-usable e = let u : usable s x ≡ true = sym as′ ∙ e in rw (usable-storable s x u, u)

@@ -8,7 +8,7 @@ use lib.Dec.{eqb, leb, ltb}
 use lib.ListN.{length}
 use Rattle.page.specs.declared.setting.Setting.{Setting}
 use Rattle.page.specs.declared.setting.Stored.{Stored}
-use Rattle.page.specs.Settings.{storable, notHere, valueSize}
+use Rattle.page.specs.Settings.{storable, notOnThisBoard, valueSize}
 use Rattle.page.specs.Page.{isThere}
 use Rattle.message.specs.Fields.{Field, fieldsOf}
 use Rattle.message.specs.Whole.{refuse}
@@ -53,7 +53,7 @@ fieldWrong subject c = not (sizeRight subject c) || not (functionRight subject c
 -- is loaded of s, a value or nothing.
 abbrev pub notOnBoard : Subject → (Setting → Stored) → Command → Bool
 notOnBoard Ping loaded c = false
-notOnBoard (About s) loaded c = eqb (c .function) 1 && notHere s (valueFor s c) || (eqb (c .function) 4 && not (isThere (loaded s)))
+notOnBoard (About s) loaded c = eqb (c .function) 1 && notOnThisBoard s (valueFor s c) || (eqb (c .function) 4 && not (isThere (loaded s)))
 notOnBoard Unknown loaded c = false
 
 -- ---- one field

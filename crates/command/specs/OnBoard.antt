@@ -7,7 +7,7 @@ use Prim.Native.Nat.{ℕ}
 use Rattle.page.specs.declared.setting.Setting.{Setting}
 use Rattle.page.specs.declared.setting.Stored.{Stored}
 use Rattle.page.specs.declared.setting.Stored.the-variants.{Absent, Value}
-use Rattle.page.specs.Settings.{usable, storable, notHere, factoryValue}
+use Rattle.page.specs.Settings.{usable, storable, notOnThisBoard, factoryValue}
 use Rattle.page.specs.Page.{storedIn}
 use Rattle.page.specs.Lookup.{valuesIn}
 use Rattle.page.specs.Sound.{sound}
@@ -73,7 +73,7 @@ refusing x c error = rowOutcome (c .code) error (idle x)
 -- Function 1: a usable value is used; one that is not on this board is 6; any other is still 4. Proof: Pages `uses-or-refuses`.
 pub record UsesOrRefuses (guarded : Bool) (x : State (List ℕ)) (c : Command) (s : Setting) : Type 0 where
   pub used : usable s (valueFor s c) ≡ true → fieldOutcome pageAccess guarded x c ≡ working x c s (valueFor s c)
-  pub not-on-board : notHere s (valueFor s c) ≡ true → fieldOutcome pageAccess guarded x c ≡ refusing x c 6
+  pub not-on-board : notOnThisBoard s (valueFor s c) ≡ true → fieldOutcome pageAccess guarded x c ≡ refusing x c 6
   pub bad : storable s (valueFor s c) ≡ false → fieldOutcome pageAccess guarded x c ≡ refusing x c 4
 
 abbrev pub FunctionOne : Type 0

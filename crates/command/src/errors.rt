@@ -5,7 +5,7 @@ ghost use lib.Dec.{eqb};
 ghost use Rattle.command.specs.Command.{valueFor};
 ghost use Rattle.command.specs.Effects.{Fits};
 ghost use Rattle.page.specs.Page.{isThere};
-ghost use Rattle.page.specs.Settings.{storable, notHere};
+ghost use Rattle.page.specs.Settings.{storable, notOnThisBoard};
 ghost use Rattle.message.specs.Whole.{refuse};
 ghost use Rattle.command.specs.Answer.{loadedFrom, numberOn, pageAccess};
 ghost use Rattle.command.specs.Errors.{isUnknown, isFunction, sizeRight, functionRight, fieldWrong, notOnBoard, alters, isKind, fieldError};
@@ -45,7 +45,7 @@ fn size_right(full: usize, size: usize, function: u8) -> bool
 
 // The error of a value sent with function 1. Most are usable, so that is tested first.
 fn value_error(setting: Setting, value: u32) -> u8
-    ensures { λ r. ⌜ r ≡ refuse (not (storable setting value)) 4 (refuse (notHere setting value) 6 0) ⌝ }
+    ensures { λ r. ⌜ r ≡ refuse (not (storable setting value)) 4 (refuse (notOnThisBoard setting value) 6 0) ⌝ }
 {
     if page::usable(setting, value) {
         return 0;

@@ -85,8 +85,8 @@ pub(crate) fn looked_up(page: &[u8], setting: Setting) -> u32
     }
 }
 
-// The value that starting sets: what is loaded, or the factory's where that is nothing, since the value is not usable on this board. Where
-// a value is loaded is tested by each that loads one, so that `looked_up` answers in a register.
+// The value that starting sets: what is loaded, or the factory's where that is nothing, since the value is not usable on this board.
+// Whether a value is loaded is tested by each caller of `looked_up`, so that it answers in a register.
 fn start_value(page: &[u8], setting: Setting) -> u32
     ensures { λ r. ⌜ (r ≡ valueOr (loadedFrom (now (page .entry)) setting) (factoryValue setting)) × Fits setting r ⌝ }
 {

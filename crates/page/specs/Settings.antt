@@ -66,8 +66,8 @@ unfoldable pub storable : Setting → ℕ → Bool
 storable s v = someOf (eqb v) (storableValues s)
 
 -- "Not on this board": a page can hold the value, and this board cannot use it.
-abbrev pub notHere : Setting → ℕ → Bool
-notHere s v = storable s v && not (usable s v)
+abbrev pub notOnThisBoard : Setting → ℕ → Bool
+notOnThisBoard s v = storable s v && not (usable s v)
 
 -- Readable in a reply: "the reply reader still takes them, from older boards".
 abbrev pub readableValues : Setting → List ℕ

@@ -10,7 +10,7 @@ use Rattle.word.specs.Word.{number}
 use Rattle.page.specs.declared.setting.Setting.{Setting}
 use Rattle.page.specs.declared.setting.Setting.the-variants.{Baud, Accelerometer, Gyroscope}
 use Rattle.page.specs.declared.setting.Values.{Values}
-use Rattle.page.specs.Settings.{codeOf, usable, storable, notHere, readable, valueBytes, factoryValue, Key, keyStorable}
+use Rattle.page.specs.Settings.{codeOf, usable, storable, notOnThisBoard, readable, valueBytes, factoryValue, Key, keyStorable}
 use Rattle.page.specs.Page.{storedIn, withValue, withNumber, withKey, noValues, allStorable, Item, itemsOf, writing, pageSize, blankPage, factoryPage}
 use Rattle.page.specs.Lookup.{bodyOf, valuesIn}
 use Rattle.page.specs.Sound.{sound, putPage, savedPage, numberedPage}
@@ -113,5 +113,5 @@ isGyroscope Gyroscope = true
 -- "06 or 07": these are the values that a page can hold and a reply report, and that are not usable on this board. Proof: Settings
 -- `not-on-this-board`.
 pub record NotOnThisBoard (s : Setting) (x : ℕ) : Type 0 where
-  pub stored : notHere s x ≡ isGyroscope s && (eqb x 0x06 || eqb x 0x07)
+  pub stored : notOnThisBoard s x ≡ isGyroscope s && (eqb x 0x06 || eqb x 0x07)
   pub reported : readable s x ≡ storable s x

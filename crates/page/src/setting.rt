@@ -92,7 +92,7 @@ pub fn storable(setting: Setting, value: u32) -> bool
     }
 }
 
-// Whether a reply can report the value: older boards reply too, with what they can save.
+// Whether a reply can report the value. Older boards reply too: today that is what a page can hold.
 pub fn readable(setting: Setting, value: u32) -> bool
     ensures { λ r. ⌜ r ≡ readable setting value ⌝ }
 {

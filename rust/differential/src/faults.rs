@@ -169,8 +169,9 @@ pub enum Fault {
     AccelerometerAs6,
     Error6BeforeSize,
     Error6Before5,
-    // Function 4 on a page that holds one.
+    // Function 4 that is sent with one.
     SentRangeWithLoad,
+    // Function 4 on a page that holds one.
     OldLoadBeforeSize,
     OldLoadBefore5,
     OldLoadTaken,
@@ -193,7 +194,7 @@ pub enum Fault {
     // The calls of their own, with such a range or on such a page.
     StartOnOldRange,
     StartOnOldPageRefused,
-    RestartKeepsOldRange,
+    StartOnRange6,
     StartInPlaceOnOldRange,
     StartInPlaceOnOldPageRefused,
     OldPageUnsound,
@@ -291,7 +292,7 @@ impl Calls for Planted {
         }
         match (self.0, old_range(page)) {
             (Fault::StartOnOldRange, Some(7)) => started.board.settings.gyroscope = 7,
-            (Fault::RestartKeepsOldRange, Some(6)) => started.board.settings.gyroscope = 6,
+            (Fault::StartOnRange6, Some(6)) => started.board.settings.gyroscope = 6,
             (Fault::StartOnOldPageRefused, Some(_)) => return Started { number: 20, ..ffi::start(&[0; 64]) },
             _ => {}
         }
@@ -305,14 +306,9 @@ impl Calls for Planted {
 
     fn feed(&self, port: u8, board: Board, chunk: &[u8], room: &mut [u8], page: &mut [u8]) -> Fed {
         let before = Before { port, board, chunk, room: room.to_vec(), page: page.to_vec() };
-        if let Some(fed) = feed_run(self.0, port, board, chunk, room, page) {
+        let fed = feed_run(self.0, port, board, chunk, room, page);
+        if let Some(fed) = fed.or_else(|| feed_refused(self.0, &before, room, page)) {
             return fed;
-        }
-        if self.is(Fault::OldBoardFed) && ranging::old(board.settings.gyroscope) {
-            return feed_old_board(&before, room, page);
-        }
-        if self.is(Fault::RoomOf165) && room.len() == Board::REPLY - 1 {
-            return feed_in_short_room(&before, room, page);
         }
         let chunk = if self.is(Fault::LengthOf16Bits) { &chunk[..chunk.len() % 65536] } else { chunk };
         let mut fed = calls::feed(port, board, chunk, room, page);
@@ -692,6 +688,15 @@ fn has_entry(page: &[u8], code: u8) -> bool {
 /// The range of the gyroscope that a sound page holds, where the board no longer takes it.
 fn old_range(page: &[u8]) -> Option<u8> {
     plain::values(page)?.gyroscope.filter(|&range| ranging::old(range))
+}
+
+/// A feed that is to be refused is accepted.
+fn feed_refused(fault: Fault, before: &Before, room: &mut [u8], page: &mut [u8]) -> Option<Fed> {
+    match fault {
+        Fault::OldBoardFed if ranging::old(before.board.settings.gyroscope) => Some(feed_old_board(before, room, page)),
+        Fault::RoomOf165 if room.len() == Board::REPLY - 1 => Some(feed_in_short_room(before, room, page)),
+        _ => None,
+    }
 }
 
 /// A board that works with a range that it no longer takes is fed as one with another range; its own stays where the

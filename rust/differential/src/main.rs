@@ -424,7 +424,7 @@ const FAULTS: [(Fault, Group); 225] = [
     (Fault::OldBoardFed, Group::Ranges),
     (Fault::StartOnOldRange, Group::Starts),
     (Fault::StartOnOldPageRefused, Group::Starts),
-    (Fault::RestartKeepsOldRange, Group::RangeLists),
+    (Fault::StartOnRange6, Group::RangeLists),
     (Fault::StartInPlaceOnOldRange, Group::StartsInPlace),
     (Fault::StartInPlaceOnOldPageRefused, Group::StartsInPlace),
     (Fault::OldPageUnsound, Group::Pages),

@@ -152,7 +152,7 @@ fn loaded(fault: Fault, field: &[u8], before: Before, error: u8) -> Option<Handl
         (Fault::OldLoadAs4, 6) => Some(before.refused(field, 4)),
         (Fault::OldLoadLeaves, 6) => Some(before.refused(field, 0)),
         (Fault::OldLoadMarked, 6) => Some(Handled { saved: true, ..before.refused(field, 6) }),
-        // The page is put in order: what is working stands on it, or nothing.
+        // The page is altered, too: it holds the working value then, or none.
         (Fault::OldLoadWrites, 6) => {
             let values = before.values.with(GYROSCOPE, u32::from(before.settings.gyroscope));
             Some(Handled { values, ..before.refused(field, 6) })

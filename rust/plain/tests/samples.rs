@@ -258,7 +258,7 @@ fn functions() {
     assert!(!report.saved);
 }
 
-/// "baud 57600", and the six that are allowed
+/// "baud 57600", and the six that are usable
 #[test]
 fn bauds() {
     let command = |baud: u32| [vec![0x01, 5, 1], baud.to_be_bytes().to_vec()].concat();
