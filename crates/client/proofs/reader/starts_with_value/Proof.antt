@@ -1,4 +1,6 @@
 -- `client::reader::starts_with_value` meets its contract: each `return` is a test of the definition.
+use mathlib.Core.Path.{_≡_}
+use Rattle.page.specs.Settings.{readable}
 use Rattle.client.proofs.Readings.{front-short, front-code, front-size, front-value}
 use Rattle.client.proofs.Tests.{size-small}
 use native.Mathlib.Omega.{arith}
@@ -51,8 +53,11 @@ number-of-requires c κs = search needs
 readable-requires : tie.Need-readable-requires
 readable-requires c κs = search needs
 
+-- What is told of the value is named, so that the search ends at once where it is another.
 returns-4 : tie.Need-returns-4
-returns-4 c = search (front-value, needs)
+returns-4 c =
+    let told : c .readable .result ≡ readable _ _ = c .readable .ensures in
+    search (front-value, needs)
 
 pub starts-with-value-spec : {M : Type 1} → statement M
 starts-with-value-spec =
