@@ -18,7 +18,7 @@ use Rattle.command.specs.declared.settings.Settings.{Settings}
 use Rattle.command.specs.Outcome.{receivedOf}
 use Rattle.command.specs.Answer.{replyRoom, answering}
 use Rattle.board.specs.declared.board.Board.{Board}
-use Rattle.board.specs.Feed.{PortStep, unsound, feedNumber, stepOn, stepOf, feedOn, feedOf}
+use Rattle.board.specs.Feed.{PortStep, unsound, feedNumber, stepOn, stepBy, feedOn, callOf}
 use Rattle.board.specs.Alone.{Ready, answeredStep, FedAlone}
 
 accepted : (port : ℕ) (b : Board) (room page : List ℕ) → Ready port b room page → feedNumber port (b .first .held) (b .second .held) (b .settings) room page ≡ 0
@@ -42,7 +42,7 @@ alone port m n ns w room page =
     rw (taken, past, take-all (length m) m (omega arith), drop-of-length-le m {i = length m} (omega arith))
 
 pub fed-alone : FedAlone
-unfolding feedOf stepOf
+unfolding callOf stepBy
 fed-alone port b room page kind payload r o l =
     let m : List ℕ = messageOf kind payload in
     let t : RoundTrip kind payload = written-is-read kind payload l in

@@ -1,7 +1,7 @@
--- Demand 1: any feed of any board, and lists of feeds from any sound board.
+-- Demand 1: any call of any board, and lists of calls from any sound board.
 use mathlib.Core.Bool.{Bool, true, false, _&&_, _||_, not}
 use mathlib.Core.List.{List, [], _∷_, _++_}
-use mathlib.Core.Path.{_≡_, refl, sym, ap, subst, _∙_}
+use mathlib.Core.Path.{_≡_, refl, sym, ap, _∙_}
 use Prim.Native.Nat.{ℕ, zero, suc, _+_, _-_, _≤_, _<_}
 use native.Mathlib.Omega.{arith}
 use native.Mathlib.Decide.{decLt}
@@ -13,9 +13,12 @@ use Rattle.stream.proofs.Bools.{differ, or-neither}
 use Rattle.stream.specs.declared.Sought.{Sought}
 use Rattle.stream.specs.declared.Sought.the-variants.{Starved, Found}
 use Rattle.stream.specs.Scan.{goodAt}
-use Rattle.stream.specs.Seek.{seek, resume, skippedBy}
-use Rattle.stream.specs.Cutting.{Agrees, StarvedAt}
-use Rattle.message.specs.Front.{front, mostUndecided}
+use Rattle.stream.specs.Seek.{resume, skippedBy}
+use Rattle.history.specs.Calls.{Input, chunkOf}
+use Rattle.history.specs.EveryList.{runNumber}
+use Rattle.history.specs.Program.{soughtBy}
+use Rattle.history.proofs.Soughts.{call-sized, Starving, call-starved}
+use Rattle.message.specs.Front.{front}
 use Rattle.message.specs.Whole.{wholeNumber, refuse}
 use Rattle.message.proofs.Framed.{cutting-harmless}
 use Rattle.message.proofs.RoundTrips.{written-is-read}
@@ -42,10 +45,10 @@ use Rattle.board.specs.declared.board.Started.{Started}
 use Rattle.board.specs.declared.port.Port.{Port}
 use Rattle.board.specs.Port.{portRoom, heldBytes, portHolding, portOf, withPort}
 use Rattle.board.specs.Start.{factorySettings, freshBoard, startOn, startOf}
-use Rattle.board.specs.Feed.{Feeding, PortStep, unsound, feedNumber, refusedFeeding, leftOf, stepOn, stepOf, feedOn, acceptOn, feedOf}
+use Rattle.board.specs.Feed.{Feeding, PortStep, unsound, feedNumber, refusedFeeding, leftOf, stepOn, stepBy, feedOn, acceptOn, callOf}
 use Rattle.board.specs.Runs.{callsFrom}
 use Rattle.board.specs.Older.{RangeSound}
-use Rattle.board.specs.AnyBoard.{isSound, otherPort, goodLength, FirstNumber, FirstNumbers, FeedsKeep, StartsKeep, runNumber, RunsStaySound}
+use Rattle.board.specs.AnyBoard.{isSound, otherPort, goodLength, FirstNumber, FirstNumbers, CallsKeep, StartsKeep, RunsStaySound}
 use Rattle.board.proofs.Follows.{holding}
 use Rattle.board.proofs.Reckons.{page-sound}
 use Rattle.board.proofs.Places.{passes, resume-past}
@@ -78,26 +81,29 @@ joined first second w p = rw (le-ltb portRoom first (p .first-few), le-ltb portR
 
 -- ---- a step
 
-module _ (port : ℕ) (held : List ℕ) (w : Settings) (chunk room page : List ℕ) where
+module _ (port : ℕ) (held : List ℕ) (w : Settings) (i : Input) (room page : List ℕ) where
+  abbrev chunk : List ℕ
+  chunk = chunkOf i
+
   -- What stays held fits the port.
-  step-few : length held ≤ portRoom → length (stepOf port held w chunk room page .held) ≤ portRoom
-  unfolding stepOf
-  step-few few = go (seek front (held ++ chunk)) refl
+  step-few : length held ≤ portRoom → length (stepBy port held w i room page .held) ≤ portRoom
+  unfolding stepBy
+  step-few few = go (soughtBy front i held) refl
     where
-      go : (q : Sought) → seek front (held ++ chunk) ≡ q → length (stepOn port q held w chunk room page .held) ≤ portRoom
+      go : (q : Sought) → soughtBy front i held ≡ q → length (stepOn port q held w chunk room page .held) ≤ portRoom
       go (Starved k) e =
-          let s : StarvedAt front mostUndecided (held ++ chunk) k = subst (Agrees front mostUndecided (held ++ chunk)) e (cutting-harmless .agrees (held ++ chunk)) in
+          let s : Starving cutting-harmless held i k = call-starved cutting-harmless held i k few e in
           s .few
       go (Found k n good) e =
-          let s = cutting-harmless .found-sized (held ++ chunk) k n good e in
+          let s = call-sized cutting-harmless held i k n good e in
           let visible : List ℕ = held ++ take (k + n - length held) chunk in
           let r : suc k ≤ resume k n good = resume-past k n (s .some) good in
           omega (arith, few, r, s .most, s .inside, length-drop (resume k n good) visible, length-append held (take (k + n - length held) chunk), length-take (k + n - length held) chunk)
 
   -- An accepted step answers 0 or 1.
-  step-number : stepOf port held w chunk room page .number ≤ 1
-  unfolding stepOf
-  step-number = go (seek front (held ++ chunk))
+  step-number : stepBy port held w i room page .number ≤ 1
+  unfolding stepBy
+  step-number = go (soughtBy front i held)
     where
       go : (q : Sought) → stepOn port q held w chunk room page .number ≤ 1
       go (Starved k) = omega arith
@@ -111,7 +117,7 @@ module _ (port : ℕ) (held : List ℕ) (w : Settings) (chunk room page : List �
     before : ℕ
     size : ℕ
     good : Bool
-    found : seek front (held ++ chunk) ≡ Found before size good
+    found : soughtBy front i held ≡ Found before size good
     some-puts : 1 ≤ length (puts before good)
     written : after ≡ putsOn page (puts before good)
 
@@ -130,11 +136,11 @@ module _ (port : ℕ) (held : List ℕ) (w : Settings) (chunk room page : List �
   marked-some [] saved m e = differ (sym e ∙ m)
   marked-some (p ∷ ps) saved m e = omega arith
 
-  step-keeps : sound page ≡ true → settingsUsable w ≡ true → replyRoom ≤ length room → StepKeeps (stepOf port held w chunk room page)
-  unfolding stepOf
-  step-keeps h a large = go (seek front (held ++ chunk)) refl
+  step-keeps : sound page ≡ true → settingsUsable w ≡ true → replyRoom ≤ length room → StepKeeps (stepBy port held w i room page)
+  unfolding stepBy
+  step-keeps h a large = go (soughtBy front i held) refl
     where
-      go : (q : Sought) → seek front (held ++ chunk) ≡ q → StepKeeps (stepOn port q held w chunk room page)
+      go : (q : Sought) → soughtBy front i held ≡ q → StepKeeps (stepOn port q held w chunk room page)
       go (Starved k) f = record { settings-usable = a; page-kept-sound = h; unsaved = λ e. refl; saved = λ e. differ (sym e) }
       go (Found k n good) f =
           let m : Received = receivedOf good (drop k (held ++ chunk)) in
@@ -196,13 +202,13 @@ module _ (port : ℕ) (held : List ℕ) (w : Settings) (chunk room page : List �
       go true e = omega (arith, s, e)
       go false e = omega (arith, s, e)
 
-  step-tells : replyRoom ≤ length room → StepTells (seek front (held ++ chunk)) (stepOf port held w chunk room page)
-  unfolding stepOf
-  step-tells large = go (seek front (held ++ chunk)) refl
+  step-tells : length held ≤ portRoom → replyRoom ≤ length room → StepTells (soughtBy front i held) (stepBy port held w i room page)
+  unfolding stepBy
+  step-tells few large = go (soughtBy front i held) refl
     where
-      go : (q : Sought) → seek front (held ++ chunk) ≡ q → StepTells q (stepOn port q held w chunk room page)
+      go : (q : Sought) → soughtBy front i held ≡ q → StepTells q (stepOn port q held w chunk room page)
       go (Starved k) e =
-          let s : StarvedAt front mostUndecided (held ++ chunk) k = subst (Agrees front mostUndecided (held ++ chunk)) e (cutting-harmless .agrees (held ++ chunk)) in
+          let s : Starving cutting-harmless held i k = call-starved cutting-harmless held i k few e in
           record {
             reported = one-not-zero;
             all-taken = λ z. refl;
@@ -213,7 +219,7 @@ module _ (port : ℕ) (held : List ℕ) (w : Settings) (chunk room page : List �
             sum = omega (arith, s .inside, length-append held chunk, length-drop k (held ++ chunk));
           }
       go (Found k n good) e =
-          let s = cutting-harmless .found-sized (held ++ chunk) k n good e in
+          let s = call-sized cutting-harmless held i k n good e in
           record {
             reported = λ z. answer-reply (receivedOf good (drop k (held ++ chunk))) large;
             all-taken = zero-not-one;
@@ -224,7 +230,7 @@ module _ (port : ℕ) (held : List ℕ) (w : Settings) (chunk room page : List �
             sum = found-sum k n good (s .some) (omega (arith, s .inside, length-append held chunk));
           }
 
--- ---- a feed
+-- ---- a call
 
 -- What passing all tests says.
 pub record Passed (port : ℕ) (b : Board) (room page : List ℕ) : Type 0 where
@@ -266,7 +272,7 @@ with-fed : (port : ℕ) (b : Board) (bs : List ℕ) (w : Settings) → portOf po
 with-fed zero b bs w = ap portHolding (sym (holding bs))
 with-fed (suc q) b bs w = ap portHolding (sym (holding bs))
 
-with-held : (port : ℕ) (b : Board) (bs : List ℕ) (w : Settings) → heldBytes (portOf port (withPort port b (portHolding bs) w)) ≡ bs
+pub with-held : (port : ℕ) (b : Board) (bs : List ℕ) (w : Settings) → heldBytes (portOf port (withPort port b (portHolding bs) w)) ≡ bs
 with-held zero b bs w = holding bs
 with-held (suc q) b bs w = holding bs
 
@@ -278,24 +284,24 @@ with-other : (port : ℕ) (b : Board) (p : Port) (w : Settings) → portOf (othe
 with-other zero b p w = refl
 with-other (suc q) b p w = refl
 
-module _ (port : ℕ) (b : Board) (chunk room page : List ℕ) where
+module _ (port : ℕ) (b : Board) (i : Input) (room page : List ℕ) where
   -- The same statement of a feeding that is given.
   record KeptBy (f : Feeding) : Type 0 where
     refused : 1 < f .answer .number → f ≡ refusedFeeding (f .answer .number) b room page
     fed-port : f .answer .number ≤ 1 → portOf port (f .answer .board) ≡ portHolding (heldBytes (portOf port (f .answer .board)))
     other-port : f .answer .number ≤ 1 → portOf (otherPort port) (f .answer .board) ≡ portOf (otherPort port) b
-    saved : f .answer .saved ≡ true → StepSaved port (heldBytes (portOf port b)) (b .settings) chunk room page (f .page)
+    saved : f .answer .saved ≡ true → StepSaved port (heldBytes (portOf port b)) (b .settings) i room page (f .page)
     unsaved : f .answer .saved ≡ false → f .page ≡ page
     board-sound : isSound b ≡ true → isSound (f .answer .board) ≡ true
     page-stays : pageNumber page ≡ 0 → pageNumber (f .page) ≡ 0
-    reported : f .answer .number ≡ 0 → StepReply port (heldBytes (portOf port b)) (b .settings) chunk room page (f .room)
-    all-taken : f .answer .number ≡ 1 → f .answer .taken ≡ length chunk
+    reported : f .answer .number ≡ 0 → StepReply port (heldBytes (portOf port b)) (b .settings) i room page (f .room)
+    all-taken : f .answer .number ≡ 1 → f .answer .taken ≡ length (chunkOf i)
     no-save : f .answer .number ≡ 1 → f .answer .saved ≡ false
     room-same : f .answer .number ≡ 1 → f .room ≡ room
     page-same : f .answer .number ≡ 1 → f .page ≡ page
     settings-same : f .answer .number ≡ 1 → f .answer .board .settings ≡ b .settings
     sum : f .answer .number ≤ 1 → length (heldBytes (portOf port b)) + f .answer .taken
-        ≡ goodLength (seek front (heldBytes (portOf port b) ++ chunk)) + f .answer .skipped + length (heldBytes (portOf port (f .answer .board)))
+        ≡ goodLength (soughtBy front i (heldBytes (portOf port b))) + f .answer .skipped + length (heldBytes (portOf port (f .answer .board)))
 
   refused-keeps : (n : ℕ) → 1 < n → KeptBy (refusedFeeding n b room page)
   refused-keeps n h =
@@ -317,16 +323,16 @@ module _ (port : ℕ) (b : Board) (chunk room page : List ℕ) where
       }
 
   abbrev this : PortStep
-  this = stepOf port (heldBytes (portOf port b)) (b .settings) chunk room page
+  this = stepBy port (heldBytes (portOf port b)) (b .settings) i room page
 
   accepted-keeps : Passed port b room page → KeptBy (feedOn this port b)
   accepted-keeps p =
       let s = parts (b .first .held) (b .second .held) (b .settings) (p .sound-board) in
       let h : sound page ≡ true = page-sound page (p .passing-page) in
-      let k = step-keeps port (heldBytes (portOf port b)) (b .settings) chunk room page h (s .usable-settings) (p .large-room) in
-      let t = step-tells port (heldBytes (portOf port b)) (b .settings) chunk room page (p .large-room) in
-      let few = step-few port (heldBytes (portOf port b)) (b .settings) chunk room page (port-few port b s) in
-      let n = step-number port (heldBytes (portOf port b)) (b .settings) chunk room page in
+      let k = step-keeps port (heldBytes (portOf port b)) (b .settings) i room page h (s .usable-settings) (p .large-room) in
+      let t = step-tells port (heldBytes (portOf port b)) (b .settings) i room page (port-few port b s) (p .large-room) in
+      let few = step-few port (heldBytes (portOf port b)) (b .settings) i room page (port-few port b s) in
+      let n = step-number port (heldBytes (portOf port b)) (b .settings) i room page in
       record {
         refused = λ l. (let no : ⊥ = omega (arith, n, l) in absurd no);
         fed-port = λ l. with-fed port b (this .held) (this .settings);
@@ -348,7 +354,7 @@ module _ (port : ℕ) (b : Board) (chunk room page : List ℕ) where
   abbrev number : ℕ
   number = feedNumber port (b .first .held) (b .second .held) (b .settings) room page
 
-  by-number : (n : ℕ) → number ≡ n → (n ≡ 0 → ⊥) → 1 < n
+  pub by-number : (n : ℕ) → number ≡ n → (n ≡ 0 → ⊥) → 1 < n
   unfolding feedNumber pageNumber
   by-number n e z =
       go (ltb 1 port) (unsound (b .first .held) (b .second .held) (b .settings)) (ltb (length room) replyRoom) (not (eqb (length page) pageSize)) (not (sound page)) n e z
@@ -361,17 +367,17 @@ module _ (port : ℕ) (b : Board) (chunk room page : List ℕ) where
       go false false false false true n e z = omega (arith, e)
       go false false false false false n e z = absurd (z (sym e))
 
-  kept-by : KeptBy (feedOf port b chunk room page)
-  unfolding feedOf
+  kept-by : KeptBy (callOf port b i room page)
+  unfolding callOf
   kept-by = go number refl
     where
-      go : (n : ℕ) → number ≡ n → KeptBy (acceptOn n port b chunk room page)
+      go : (n : ℕ) → number ≡ n → KeptBy (acceptOn n port b i room page)
       go zero e = accepted-keeps (passed port b room page e)
       go (suc n) e = refused-keeps (suc n) (by-number (suc n) e (λ z. (let no : ⊥ = omega (arith, z) in absurd no)))
 
-pub feeds-keep : FeedsKeep
-feeds-keep port b chunk room page =
-    let k = kept-by port b chunk room page in
+pub calls-keep : CallsKeep
+calls-keep port b i room page =
+    let k = kept-by port b i room page in
     record {
       refused = k .refused;
       ports = λ l. record { fed-port = k .fed-port l; other-port = k .other-port l };
@@ -398,9 +404,9 @@ page-0 : (page : List ℕ) → length page ≡ pageSize → sound page ≡ true 
 unfolding pageNumber
 page-0 page l s = rw (eq-eqb (length page) pageSize l, s)
 
-module _ (port : ℕ) (b : Board) (chunk room page : List ℕ) where
-  told : (n : ℕ) → feedNumber port (b .first .held) (b .second .held) (b .settings) room page ≡ suc n → feedOf port b chunk room page .answer .number ≡ suc n
-  unfolding feedOf
+module _ (port : ℕ) (b : Board) (i : Input) (room page : List ℕ) where
+  told : (n : ℕ) → feedNumber port (b .first .held) (b .second .held) (b .settings) room page ≡ suc n → callOf port b i room page .answer .number ≡ suc n
+  unfolding callOf
   told n e = rw e
 
   not-sound : isSound b ≡ false → unsound (b .first .held) (b .second .held) (b .settings) ≡ true
@@ -429,11 +435,11 @@ module _ (port : ℕ) (b : Board) (chunk room page : List ℕ) where
   unfolding feedNumber
   number-page p u r = rw (le-ltb 1 port p, is-sound u, le-ltb (length room) replyRoom r)
 
-  accepted-number : feedNumber port (b .first .held) (b .second .held) (b .settings) room page ≡ 0 → feedOf port b chunk room page .answer .number ≤ 1
-  unfolding feedOf
-  accepted-number e = rw e (step-number port (heldBytes (portOf port b)) (b .settings) chunk room page)
+  accepted-number : feedNumber port (b .first .held) (b .second .held) (b .settings) room page ≡ 0 → callOf port b i room page .answer .number ≤ 1
+  unfolding callOf
+  accepted-number e = rw e (step-number port (heldBytes (portOf port b)) (b .settings) i room page)
 
-  pub first-number : FirstNumber port b chunk room page
+  pub first-number : FirstNumber port b i room page
   first-number =
       record {
         wrong-port = λ h. told 15 (number-port h);
@@ -485,26 +491,26 @@ starts-keep page =
       board-sound = started-sound page;
     }
 
--- ---- lists of feeds
+-- ---- lists of calls
 
-run-number : (port : ℕ) (b : Board) (chunk room page : List ℕ) → isSound b ≡ true → pageNumber page ≡ 0 → runNumber (feedOf port b chunk room page .answer .number) ≡ true
-run-number port b chunk room page s p = go (decLt 1 port) (decLt (length room) replyRoom)
+run-number : (port : ℕ) (b : Board) (i : Input) (room page : List ℕ) → isSound b ≡ true → pageNumber page ≡ 0 → runNumber (callOf port b i room page .answer .number) ≡ true
+run-number port b i room page s p = go (decLt 1 port) (decLt (length room) replyRoom)
   where
     accepted : (n : ℕ) → n ≤ 1 → runNumber n ≡ true
     accepted zero h = refl
     accepted (suc zero) h = refl
     accepted (suc (suc n)) h = let no : ⊥ = omega (arith, h) in absurd no
 
-    go : Dec (1 < port) → Dec (length room < replyRoom) → runNumber (feedOf port b chunk room page .answer .number) ≡ true
-    go (yes h) r = rw (first-number port b chunk room page .wrong-port h)
-    go (no h) (yes r) = rw (first-number port b chunk room page .small-room (omega arith) s r)
-    go (no h) (no r) = accepted _ (accepted-number port b chunk room page (number-page port b chunk room page (omega arith) s (omega arith) ∙ p))
+    go : Dec (1 < port) → Dec (length room < replyRoom) → runNumber (callOf port b i room page .answer .number) ≡ true
+    go (yes h) r = rw (first-number port b i room page .wrong-port h)
+    go (no h) (yes r) = rw (first-number port b i room page .small-room (omega arith) s r)
+    go (no h) (no r) = accepted _ (accepted-number port b i room page (number-page port b i room page (omega arith) s (omega arith) ∙ p))
 
 pub runs-stay-sound : RunsStaySound
 unfolding callsFrom
 runs-stay-sound b page [] s p = record { numbers = refl; board-sound = s; page-sound = p }
 runs-stay-sound b page (c ∷ cs) s p =
-    let k = feeds-keep (c .port) b (c .chunk) (c .room) page in
-    let f : Feeding = feedOf (c .port) b (c .chunk) (c .room) page in
+    let k = calls-keep (c .port) b (c .input) (c .room) page in
+    let f : Feeding = callOf (c .port) b (c .input) (c .room) page in
     let rest = runs-stay-sound (f .answer .board) (f .page) cs (k .board-sound s) (k .page-sound p) in
-    record { numbers = rw (run-number (c .port) b (c .chunk) (c .room) page s p) (rest .numbers); board-sound = rest .board-sound; page-sound = rest .page-sound }
+    record { numbers = rw (run-number (c .port) b (c .input) (c .room) page s p) (rest .numbers); board-sound = rest .board-sound; page-sound = rest .page-sound }

@@ -8,7 +8,7 @@ use lib.Dec.{eqb}
 use lib.ListN.{length}
 use borrow.Author.Tests.{eq-eqb, lt-ltb}
 use Rattle.history.specs.Program.{passing}
-use Rattle.history.specs.Theorems.{Handles}
+use Rattle.history.specs.Premises.{Handles}
 use Rattle.page.specs.declared.setting.Setting.{Setting}
 use Rattle.page.specs.declared.setting.Values.{Values}
 use Rattle.page.specs.declared.setting.Stored.{Stored}

@@ -1,4 +1,4 @@
--- Histories of feeds and restarts: no number is accepted twice, and what is sent again on port 0 changes nothing.
+-- Histories of calls and restarts: no number is accepted twice, and what is sent again on port 0 changes nothing.
 use mathlib.Core.Bool.{Bool, true, false, cond}
 use mathlib.Core.List.{List, [], _∷_, _++_}
 use mathlib.Core.Option.{Option, none, some}
@@ -11,7 +11,8 @@ use borrow.Author.Tests.{eqb-true, ltb-true}
 use Rattle.stream.proofs.Bools.{and-both}
 use Rattle.stream.specs.declared.Sought.{Sought}
 use Rattle.stream.specs.declared.Sought.the-variants.{Starved, Found}
-use Rattle.stream.specs.Seek.{seek}
+use Rattle.history.specs.Calls.{chunkOf}
+use Rattle.history.specs.Program.{soughtBy}
 use Rattle.history.specs.Restarts.{Act, call, restart}
 use Rattle.history.specs.Numbers.{Growing}
 use Rattle.history.proofs.Numbers.{growing-none-twice}
@@ -30,7 +31,7 @@ use Rattle.command.proofs.Pages.{answer-large}
 use Rattle.board.specs.declared.board.Board.{Board}
 use Rattle.board.specs.Port.{heldBytes, portHolding, portOf}
 use Rattle.board.specs.Start.{startOf}
-use Rattle.board.specs.Feed.{Feeding, PortStep, feedNumber, stepOn, stepOf, acceptOn, feedOf}
+use Rattle.board.specs.Feed.{Feeding, PortStep, feedNumber, stepOn, stepBy, acceptOn, callOf}
 use Rattle.board.specs.Handling.{Kept}
 use Rattle.board.specs.Runs.{Call, Calls, callsFrom}
 use Rattle.board.specs.Histories.{actsFrom, actThen, NoRestart, OneActMore, carriedAt, numberFound, acceptedWith, acceptedBy, acceptedFrom, MarkIsFresh, MarksFresh, lastAfter, NoNumberTwice, onPortZero, ReplayChangesNothing}
@@ -43,7 +44,7 @@ pub no-restart : NoRestart
 unfolding actsFrom callsFrom
 no-restart b page [] = refl
 no-restart b page (c ∷ cs) =
-    let f : Feeding = feedOf (c .port) b (c .chunk) (c .room) page in
+    let f : Feeding = callOf (c .port) b (c .input) (c .room) page in
     ap (λ (r : Calls). record { feedings = f ∷ r .feedings; board = r .board; page = r .page }) (no-restart (f .answer .board) (f .page) cs)
 
 pub one-act-more : OneActMore
@@ -52,13 +53,13 @@ one-act-more b page [] (call c) = refl
 one-act-more b page [] restart = refl
 one-act-more b page (restart ∷ acts) a = one-act-more (startOf page .board) page acts a
 one-act-more b page (call d ∷ acts) a =
-    let f : Feeding = feedOf (d .port) b (d .chunk) (d .room) page in
+    let f : Feeding = callOf (d .port) b (d .input) (d .room) page in
     let more : Calls → Calls = λ r. record { feedings = f ∷ r .feedings; board = r .board; page = r .page } in
     ap more (one-act-more (f .answer .board) (f .page) acts a) ∙ go a (actsFrom (f .answer .board) (f .page) acts)
   where
     go : (a : Act Call) (r : Calls)
-        → record { feedings = feedOf (d .port) b (d .chunk) (d .room) page ∷ actThen r a .feedings; board = actThen r a .board; page = actThen r a .page }
-        ≡ actThen (record { feedings = feedOf (d .port) b (d .chunk) (d .room) page ∷ r .feedings; board = r .board; page = r .page }) a
+        → record { feedings = callOf (d .port) b (d .input) (d .room) page ∷ actThen r a .feedings; board = actThen r a .board; page = actThen r a .page }
+        ≡ actThen (record { feedings = callOf (d .port) b (d .input) (d .room) page ∷ r .feedings; board = r .board; page = r .page }) a
     go (call c) r = refl
     go restart r = refl
 
@@ -116,7 +117,7 @@ module _ (port : ℕ) (x : Kept) (m : Received) where
           let mark : outcome .saved ≡ isFresh (numberOn (x .page)) n = number-handles (List ℕ) pageAccess port x m n e .mark in
           rw mark (one-leads (isFresh (numberOn (x .page)) n) (numberOn (x .page)) (numberOn (outcome .next .page)) n refl (kept (some n) e))
 
--- ---- one feed, of any board
+-- ---- one call, of any board
 
 module _ (b : Board) (page : List ℕ) (c : Call) where
   abbrev held : List ℕ
@@ -126,13 +127,13 @@ module _ (b : Board) (page : List ℕ) (c : Call) where
   number = feedNumber (c .port) (b .first .held) (b .second .held) (b .settings) (c .room) page
 
   abbrev stepFor : Sought → PortStep
-  stepFor q = stepOn (c .port) q held (b .settings) (c .chunk) (c .room) page
+  stepFor q = stepOn (c .port) q held (b .settings) (chunkOf (c .input)) (c .room) page
 
   abbrev stored : Kept
   stored = record { settings = b .settings; page = page }
 
   abbrev received : ℕ → Bool → Received
-  received k good = receivedOf good (drop k (held ++ c .chunk))
+  received k good = receivedOf good (drop k (held ++ chunkOf (c .input)))
 
   -- A message that is found is handled.
   answered : Passed (c .port) b (c .room) page → (k : ℕ) (good : Bool)
@@ -141,25 +142,25 @@ module _ (b : Board) (page : List ℕ) (c : Call) where
   answered p k good = answer-large (c .port) (received k good) (b .settings) (c .room) page (p .large-room)
 
   step-leads : Passed (c .port) b (c .room) page → (q : Sought)
-      → Leads (numberOn page) (acceptedWith (stepFor q .saved) (carriedAt q (held ++ c .chunk))) (numberOn (stepFor q .page))
+      → Leads (numberOn page) (acceptedWith (stepFor q .saved) (carriedAt q (held ++ chunkOf (c .input)))) (numberOn (stepFor q .page))
   step-leads p (Starved k) = refl
   step-leads p (Found k n good) =
       subst (λ (a : Answering). Leads (numberOn page) (acceptedWith (a .answer .saved) (carried (received k good))) (numberOn (a .page))) (sym (answered p k good))
       (message-leads (c .port) stored (received k good) (page-sound page (p .passing-page)))
 
   abbrev feeding : Feeding
-  feeding = feedOf (c .port) b (c .chunk) (c .room) page
+  feeding = callOf (c .port) b (c .input) (c .room) page
 
   abbrev feedingAs : ℕ → Feeding
-  feedingAs n = acceptOn n (c .port) b (c .chunk) (c .room) page
+  feedingAs n = acceptOn n (c .port) b (c .input) (c .room) page
 
-  -- A refused feed accepts nothing and leaves the page.
+  -- A refused call accepts nothing and leaves the page.
   feed-leads : Leads (numberOn page) (acceptedBy b c feeding) (numberOn (feeding .page))
-  unfolding feedOf stepOf
+  unfolding callOf stepBy
   feed-leads = go number refl
     where
       go : (n : ℕ) → number ≡ n → Leads (numberOn page) (acceptedBy b c (feedingAs n)) (numberOn (feedingAs n .page))
-      go zero e = step-leads (passed (c .port) b (c .room) page e) (seek front (held ++ c .chunk))
+      go zero e = step-leads (passed (c .port) b (c .room) page e) (soughtBy front (c .input) held)
       go (suc n) e = refl
 
   -- ---- the mark
@@ -168,7 +169,7 @@ module _ (b : Board) (page : List ℕ) (c : Call) where
     answered-so : answers ≡ 0 → saved ≡ isFresh (numberOn page) n
     unmarked : saved ≡ false → (settings ≡ b .settings) × (after ≡ page)
 
-  step-marks : Passed (c .port) b (c .room) page → (q : Sought) (n : ℕ) → carriedAt q (held ++ c .chunk) ≡ some n
+  step-marks : Passed (c .port) b (c .room) page → (q : Sought) (n : ℕ) → carriedAt q (held ++ chunkOf (c .input)) ≡ some n
       → Marks n (stepFor q .number) (stepFor q .saved) (stepFor q .settings) (stepFor q .page)
   step-marks p (Starved k) n e = let z : _≡_ {A = ℕ} 0 1 = cc in absurd (omega arith)
   step-marks p (Found k l good) n e =
@@ -182,15 +183,15 @@ module _ (b : Board) (page : List ℕ) (c : Call) where
       })
 
   mark-is-fresh : (n : ℕ) → numberFound b c ≡ some n → MarkIsFresh b page c n
-  unfolding feedOf stepOf
+  unfolding callOf stepBy
   mark-is-fresh n e =
       let m = go number refl in
       record { answered = m .answered-so; unmarked = m .unmarked }
     where
       go : (i : ℕ) → number ≡ i → Marks n (feedingAs i .answer .number) (feedingAs i .answer .saved) (feedingAs i .answer .board .settings) (feedingAs i .page)
       go zero h =
-          let m = step-marks (passed (c .port) b (c .room) page h) (seek front (held ++ c .chunk)) n e in
-          let w = with-settings (c .port) b (portHolding (stepFor (seek front (held ++ c .chunk)) .held)) (stepFor (seek front (held ++ c .chunk)) .settings) in
+          let m = step-marks (passed (c .port) b (c .room) page h) (soughtBy front (c .input) held) n e in
+          let w = with-settings (c .port) b (portHolding (stepFor (soughtBy front (c .input) held) .held)) (stepFor (soughtBy front (c .input) held) .settings) in
           record { answered-so = m .answered-so; unmarked = λ z. (w ∙ m .unmarked z .0, m .unmarked z .1) }
       go (suc i) h = record { answered-so = λ z. (let no : ⊥ = omega (arith, z) in absurd no); unmarked = λ z. (refl, refl) }
 
@@ -203,7 +204,7 @@ acts-lead : (b : Board) (page : List ℕ) (acts : List (Act Call)) → Leads (nu
 unfolding actsFrom acceptedFrom
 acts-lead b page [] = refl
 acts-lead b page (call c ∷ acts) =
-    let f : Feeding = feedOf (c .port) b (c .chunk) (c .room) page in
+    let f : Feeding = callOf (c .port) b (c .input) (c .room) page in
     leads-append (numberOn page) (numberOn (f .page)) (numberOn (actsFrom (f .answer .board) (f .page) acts .page))
     (acceptedBy b c f) (acceptedFrom (f .answer .board) (f .page) acts)
     (feed-leads b page c) (acts-lead (f .answer .board) (f .page) acts)
@@ -225,7 +226,7 @@ no-number-twice page acts =
 
 -- ---- what is sent again
 
--- What a step or a feed leaves of the settings and the page, of any board.
+-- What a step or a call leaves of the settings and the page, of any board.
 record Same (w : Settings) (page : List ℕ) (settings : Settings) (after : List ℕ) : Type 0 where
   settings-same : settings ≡ w
   page-same : after ≡ page
@@ -236,7 +237,7 @@ unmarked-or-none true none e n c = let z : _≡_ {A = ℕ} 0 1 = cc in absurd (o
 unmarked-or-none true (some m) e n c = let z : _≡_ {A = ℕ} 0 1 = cc in absurd (omega arith)
 
 module _ (b : Board) (page : List ℕ) (c : Call) (last : ℕ) (zeroth : c .port ≡ 0) (kept : numberOn page ≡ Value last) where
-  step-same : Passed (c .port) b (c .room) page → (q : Sought) → carriedAt q (held b page c ++ c .chunk) ≡ none
+  step-same : Passed (c .port) b (c .room) page → (q : Sought) → carriedAt q (held b page c ++ chunkOf (c .input)) ≡ none
       → Same (b .settings) page (stepFor b page c q .settings) (stepFor b page c q .page)
   step-same p (Starved k) e = record { settings-same = refl; page-same = refl }
   step-same p (Found k l good) e =
@@ -248,14 +249,14 @@ module _ (b : Board) (page : List ℕ) (c : Call) (last : ℕ) (zeroth : c .port
       subst (λ (a : Answering). Same (b .settings) page (a .answer .settings) (a .page)) (sym (answered b page c p k good))
       (record { settings-same = ap (λ (x : Kept). x .settings) z; page-same = ap (λ (x : Kept). x .page) z })
 
-  -- A feed without a number.
+  -- A call without a number.
   unnumbered-same : numberFound b c ≡ none → Same (b .settings) page (feeding b page c .answer .board .settings) (feeding b page c .page)
-  unfolding feedOf stepOf
+  unfolding callOf stepBy
   unnumbered-same e = go (number b page c) refl
     where
       go : (i : ℕ) → number b page c ≡ i → Same (b .settings) page (feedingAs b page c i .answer .board .settings) (feedingAs b page c i .page)
       go zero h =
-          let q : Sought = seek front (held b page c ++ c .chunk) in
+          let q : Sought = soughtBy front (c .input) (held b page c) in
           let s = step-same (passed (c .port) b (c .room) page h) q e in
           let w = with-settings (c .port) b (portHolding (stepFor b page c q .held)) (stepFor b page c q .settings) in
           record { settings-same = w ∙ s .settings-same; page-same = s .page-same }

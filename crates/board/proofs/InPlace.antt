@@ -1,22 +1,24 @@
--- A feed in place: its tests, and that it is the feed of the board; and that a start in place is the start.
+-- A call in place: its tests, and that it is the call of the board; and that a start in place is the start.
 use mathlib.Core.Bool.{Bool, true, false, not}
 use mathlib.Core.List.{List}
 use mathlib.Core.Path.{_≡_, refl, sym, _∙_}
-use Prim.Native.Nat.{ℕ, zero, suc, _≤_, _<_}
+use Prim.Native.Nat.{ℕ, zero, suc, _-_, _≤_, _<_}
 use native.Mathlib.Omega.{arith}
 use lib.Dec.{eqb, ltb}
-use lib.ListN.{length, take}
+use lib.ListN.{length, take, drop}
 use borrow.Author.Tests.{lt-ltb, le-ltb, eq-eqb, ne-eqb, eqb-true}
 use Rattle.command.specs.declared.settings.Settings.{Settings}
 use Rattle.board.specs.declared.board.Board.{Board}
 use Rattle.board.specs.declared.feeding.Stepped.{Stepped}
 use Rattle.board.specs.Port.{portRoom, heldBytes, portHolding, portOf}
 use Rattle.message.specs.Whole.{refuse}
-use Rattle.board.specs.Start.{startOn, startOf, startInPlace, startPlaceOf}
+use Rattle.history.specs.Calls.{Input, chunkOf}
 use Rattle.page.specs.Sound.{pageNumber}
-use Rattle.board.specs.Feed.{PortStep, feedNumber, refusedFeeding, refusedStepping, stepOf, feedOn, acceptOn, feedOf, inPlace, namedHeld, placeNumber, placeOn, placeOf}
-use Rattle.board.specs.InPlace.{putBack, InPlaceIsFeed, putIn, InPlaceIsStart}
-use Rattle.board.proofs.Places.{passes}
+use Rattle.board.specs.Start.{startOn, startOf, startInPlace, startPlaceOf}
+use Rattle.board.specs.Feed.{inputOf, PortStep, feedNumber, refusedFeeding, stepBy, stepAt, feedOn, acceptOn, callOf}
+use Rattle.board.specs.Place.{refusedStepping, inPlace, namedHeld, placeNumber, placeOn, placeBy}
+use Rattle.board.specs.InPlace.{putBack, InPlaceIsCall, putIn, InPlaceIsStart}
+use Rattle.board.proofs.Places.{passes, step-brings}
 use Rattle.board.proofs.Feedings.{SoundParts, passed-parts}
 
 pub held-second : (port first second : ℕ) → (port ≡ 0 → ⊥) → second ≡ namedHeld port first second
@@ -37,13 +39,13 @@ module _ (port : ℕ) (bytes : List ℕ) (first second : ℕ) (w : Settings) (ro
   place-rest p h n e = rw (le-ltb 1 port p, eq-eqb (length bytes) 260 h) e
 
   module _ (n : ℕ) (ns : n ≡ placeNumber port bytes first second w room page) (h : ℕ) (hs : h ≡ namedHeld port first second) where
-    pub place-refused : (chunk : List ℕ) → (n ≡ 0 → ⊥)
+    pub place-refused : (i : Input) → (n ≡ 0 → ⊥)
         → record { step = record { number = n; taken = 0; skipped = 0; saved = false; held = h; settings = w }; bytes = bytes; room = room; page = page }
-        ≡ placeOf port bytes first second w chunk room page
-    unfolding placeOf
-    place-refused chunk z = rw (hs, ← ns) (go n z)
+        ≡ placeBy port bytes first second w i room page
+    unfolding placeBy
+    place-refused i z = rw (hs, ← ns) (go n z)
       where
-        go : (n : ℕ) → (n ≡ 0 → ⊥) → refusedStepping n (namedHeld port first second) w bytes room page ≡ placeOn n port bytes (namedHeld port first second) w chunk room page
+        go : (n : ℕ) → (n ≡ 0 → ⊥) → refusedStepping n (namedHeld port first second) w bytes room page ≡ placeOn n port bytes (namedHeld port first second) w i room page
         go zero z = absurd (z refl)
         go (suc n) z = refl
 
@@ -71,13 +73,15 @@ module _ (port : ℕ) (bytes : List ℕ) (first second : ℕ) (w : Settings) (ro
         go zero = p .first-few
         go (suc q) = p .second-few
 
-    pub place-done : (chunk : List ℕ) → n ≡ 0 → (r : Stepped) (bytesAfter roomAfter pageAfter : List ℕ)
-        → record { step = r; bytes = bytesAfter; room = roomAfter; page = pageAfter } ≡ inPlace (stepOf port (take h bytes) w chunk room page)
-        → record { step = r; bytes = bytesAfter; room = roomAfter; page = pageAfter } ≡ placeOf port bytes first second w chunk room page
-    unfolding placeOf
-    place-done chunk z r bytesAfter roomAfter pageAfter e = e ∙ rw (← ns, z, hs)
+    pub place-done : n ≡ 0 → (quiet : Bool) (chunk : List ℕ) (brings : ℕ) → brings ≡ length (chunkOf (inputOf quiet chunk))
+        → (r : Stepped) (bytesAfter roomAfter pageAfter : List ℕ)
+        → record { step = r; bytes = bytesAfter; room = roomAfter; page = pageAfter } ≡ inPlace (stepAt port quiet (take h bytes) w (take (brings - 0) (drop 0 chunk)) room page)
+        → record { step = r; bytes = bytesAfter; room = roomAfter; page = pageAfter } ≡ placeBy port bytes first second w (inputOf quiet chunk) room page
+    unfolding placeBy
+    place-done z quiet chunk brings bs r bytesAfter roomAfter pageAfter e =
+        e ∙ rw (step-brings port quiet chunk brings bs (take h bytes) w room page, ← ns, z, hs)
 
--- ---- the feed of the board
+-- ---- the call of the board
 
 same-number : (port : ℕ) (bytes : List ℕ) (first second : ℕ) (w : Settings) (room page : List ℕ) → length bytes ≡ portRoom
     → placeNumber port bytes first second w room page ≡ feedNumber port first second w room page
@@ -101,14 +105,14 @@ put-done : (port : ℕ) (b : Board) (s : PortStep) → putBack port b (inPlace s
 unfolding portHolding
 put-done port b s = refl
 
-pub in-place-is-feed : InPlaceIsFeed
-unfolding placeOf feedOf
-in-place-is-feed port b chunk room page l =
+pub in-place-is-call : InPlaceIsCall
+unfolding placeBy callOf
+in-place-is-call port b i room page l =
     rw (same-number port (portOf port b .bytes) (b .first .held) (b .second .held) (b .settings) room page l, held-is port b)
     (go (feedNumber port (b .first .held) (b .second .held) (b .settings) room page))
   where
-    go : (n : ℕ) → putBack port b (placeOn n port (portOf port b .bytes) (portOf port b .held) (b .settings) chunk room page) ≡ acceptOn n port b chunk room page
-    go zero = put-done port b (stepOf port (heldBytes (portOf port b)) (b .settings) chunk room page)
+    go : (n : ℕ) → putBack port b (placeOn n port (portOf port b .bytes) (portOf port b .held) (b .settings) i room page) ≡ acceptOn n port b i room page
+    go zero = put-done port b (stepBy port (heldBytes (portOf port b)) (b .settings) i room page)
     go (suc n) = put-refused port b (suc n) room page
 
 pub in-place-is-start : InPlaceIsStart

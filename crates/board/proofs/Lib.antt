@@ -9,5 +9,6 @@ pub mod Places
 pub mod Reckons
 pub mod Restarts
 pub mod Sampled
+pub mod Silences
 pub mod Starts
 pub mod Steps

@@ -1,7 +1,7 @@
--- The laws of a step in place: what the seek finds lies in the bytes held and taken, and what is left of them fits the port.
+-- The laws of a step in place: what a call finds lies in the bytes held and taken, and what is left of them fits the port.
 use Prim.Native.Nat.{ℕ, zero, suc, _+_, _-_, _≤_}
 use native.Mathlib.Omega.{arith}
-use mathlib.Core.Path.{_≡_, refl, sym, ap, subst, _∙_}
+use mathlib.Core.Path.{_≡_, refl, sym, ap, _∙_}
 use mathlib.Core.Bool.{Bool, true, false, _||_, not}
 use mathlib.Core.List.{List, _++_}
 use lib.Dec.{ltb}
@@ -12,7 +12,12 @@ use Rattle.stream.proofs.Bools.{or-neither}
 use Rattle.stream.specs.declared.Sought.{Sought}
 use Rattle.stream.specs.declared.Sought.the-variants.{Starved, Found}
 use Rattle.stream.specs.Seek.{seek, resume, skippedBy}
-use Rattle.stream.specs.Cutting.{Agrees, StarvedAt}
+use Rattle.stream.specs.Silence.{endOf, upTo}
+use Rattle.stream.specs.Cutting.{Sized}
+use Rattle.stream.proofs.Cuts.{starved-goes}
+use Rattle.stream.proofs.Drains.{drain-all}
+use Rattle.stream.proofs.Scans.{found-is, starved-is}
+use Rattle.history.specs.Calls.{Input, chunkOf}
 use Rattle.message.specs.Front.{front, mostUndecided}
 use Rattle.message.specs.Whole.{refuse}
 use Rattle.message.proofs.Framed.{cutting-harmless}
@@ -25,13 +30,10 @@ use Rattle.board.specs.declared.feeding.Stepped.{Stepped}
 use Rattle.board.specs.declared.board.Board.{Board}
 use Rattle.board.specs.declared.board.Fed.{Fed}
 use Rattle.board.specs.Port.{padded, heldBytes, portHolding, portOf}
-use Rattle.board.specs.Feed.{Feeding, PortStep, unsound, feedNumber, refusedFeeding, acceptOn, leftOf, stepOf, inPlace, Stepping, feedOn, feedOf}
+use Rattle.board.specs.Feed.{inputOf, Feeding, PortStep, unsound, feedNumber, refusedFeeding, acceptOn, leftOf, stepOn, stepBy, stepAt, feedOn, callOf}
+use Rattle.board.specs.Place.{Stepping, inPlace}
 use Rattle.board.proofs.Kept.{window-length}
 use Rattle.board.proofs.Starts.{drop-take}
-
--- What the seek answered is what it is by definition.
-pub sought-is : (s : Sought) (u : List ℕ) → s ≡ seek front u → (t : Sought) → s ≡ t → seek front u ≡ t
-sought-is s u e t h = sym e ∙ h
 
 -- Where reading goes on after a message of n bytes at k.
 module _ (k n : ℕ) (some : 1 ≤ n) where
@@ -52,16 +54,7 @@ module _ (b chunk : List ℕ) (held : ℕ) (few : held ≤ 260) (long : length b
 
   -- ---- nothing found
 
-  module _ (k : ℕ) (e : seek front (take held b ++ chunk) ≡ Starved k) where
-    starved : StarvedAt front mostUndecided (take held b ++ chunk) k
-    starved = subst (Agrees front mostUndecided (take held b ++ chunk)) e (cutting-harmless .agrees (take held b ++ chunk))
-
-    pub starved-in : k ≤ held + length chunk
-    starved-in = omega (arith, row-long, starved .inside)
-
-    pub starved-few : held + length chunk - k ≤ 260
-    starved-few = omega (arith, row-long, length-drop k (take held b ++ chunk), starved .few)
-
+  module _ (k : ℕ) where
     pub starved-long : held + length chunk - k ≡ length (drop k (take held b ++ chunk))
     starved-long = sym (length-drop k (take held b ++ chunk) ∙ ap (λ (i : ℕ). i - k) row-long)
 
@@ -73,38 +66,21 @@ module _ (b chunk : List ℕ) (held : ℕ) (few : held ≤ 260) (long : length b
     pub starved-kept : (y : List ℕ) → y ≡ padded (take (held + length chunk - k) (drop k (take held b ++ chunk))) → y ≡ padded (drop k (take held b ++ chunk))
     starved-kept y ys = ys ∙ ap padded (take-all (held + length chunk - k) (drop k (take held b ++ chunk)) (omega (arith, starved-long)))
 
-    pub starved-step : (port : ℕ) (w : Settings) (room page y : List ℕ) (r : Stepped)
-        → r ≡ record { number = 1; taken = length chunk; skipped = k; saved = false; held = length (drop k (take held b ++ chunk)); settings = w }
-        → y ≡ padded (drop k (take held b ++ chunk))
-        → record { step = r; bytes = y; room = room; page = page } ≡ inPlace (stepOf port (take held b) w chunk room page)
-    unfolding stepOf
-    starved-step port w room page y r rs ys = rw (rs, ys, e)
-
   -- ---- a message found
 
-  module _ (k n : ℕ) (good : Bool) (e : seek front (take held b ++ chunk) ≡ Found k n good) where
-    pub found-some : 1 ≤ n
-    found-some = cutting-harmless .found-sized (take held b ++ chunk) k n good e .some
-
-    found-most : n ≤ 261
-    found-most = cutting-harmless .found-sized (take held b ++ chunk) k n good e .most
-
-    pub found-in : k + n ≤ held + length chunk
-    found-in = omega (arith, row-long, cutting-harmless .found-sized (take held b ++ chunk) k n good e .inside)
-
+  module _ (k n : ℕ) (good : Bool) (some : 1 ≤ n) (most : n ≤ 261) (inside : k + n ≤ held + length chunk) where
     pub found-at : k ≤ held + length chunk
-    found-at = omega (arith, found-in)
+    found-at = omega arith
 
     pub found-step : (port : ℕ) (w : Settings) (room page : List ℕ) (a : Answer) (roomAfter pageAfter : List ℕ)
         → record { answer = a; room = roomAfter; page = pageAfter } ≡ answering port (receivedOf good (drop k (take held b ++ chunk))) w room page
         → (l : ℕ) → l ≡ length (leftOf k n good (take held b) chunk)
         → (y : List ℕ) → y ≡ padded (leftOf k n good (take held b) chunk)
         → (r : Stepped) → r ≡ record { number = 0; taken = k + n - held; skipped = skippedBy k good; saved = a .saved; held = l; settings = a .settings }
-        → record { step = r; bytes = y; room = roomAfter; page = pageAfter } ≡ inPlace (stepOf port (take held b) w chunk room page)
-    unfolding stepOf
+        → record { step = r; bytes = y; room = roomAfter; page = pageAfter } ≡ inPlace (stepOn port (Found k n good) (take held b) w chunk room page)
     found-step port w room page a roomAfter pageAfter g l ls y ys r rs =
         let h : k + n - length (take held b) ≡ k + n - held = ap (λ (i : ℕ). k + n - i) held-long in
-        rw (rs, e, ys, ls, ← h)
+        rw (rs, ys, ls, ← h)
         (ap (λ (g : Answering). record {
           step = record { number = 0; taken = k + n - length (take held b); skipped = skippedBy k good; saved = g .answer .saved; held = length (leftOf k n good (take held b) chunk); settings = g .answer .settings };
           bytes = padded (leftOf k n good (take held b) chunk);
@@ -115,13 +91,13 @@ module _ (b chunk : List ℕ) (held : ℕ) (few : held ≤ 260) (long : length b
     -- What is kept: from..to of the row.
     module _ (from x : ℕ) (fs : from ≡ resume k n good) (xs : x ≡ k + n - held) where
       pub kept-after : from ≤ held + x
-      kept-after = omega (arith, fs, xs, resume-in k n found-some good)
+      kept-after = omega (arith, fs, xs, resume-in k n some good)
 
       pub kept-inside : held + x ≤ held + length chunk
-      kept-inside = omega (arith, xs, found-in)
+      kept-inside = omega (arith, xs, inside)
 
       pub kept-few : held + x - from ≤ 260
-      kept-few = omega (arith, few, fs, xs, resume-past k n found-some good, found-most)
+      kept-few = omega (arith, few, fs, xs, resume-past k n some good, most)
 
       row-to : take held b ++ take (k + n - length (take held b)) chunk ≡ take (held + x) (take held b ++ chunk)
       row-to =
@@ -139,6 +115,78 @@ module _ (b chunk : List ℕ) (held : ℕ) (few : held ≤ 260) (long : length b
 
       pub left-kept : (y : List ℕ) → y ≡ padded (take (held + x - from) (drop from (take held b ++ chunk))) → y ≡ padded (leftOf k n good (take held b) chunk)
       left-kept y ys = ys ∙ ap padded (sym left-is)
+
+-- ---- by where the scan of a call ends
+
+module _ (b chunk : List ℕ) (held : ℕ) (few : held ≤ 260) (long : length b ≡ 260) (quiet : Bool) (q : Sought)
+    (is : q ≡ seek (upTo (endOf quiet) front) (take held b ++ chunk)) where
+  row : length (take held b ++ chunk) ≡ held + length chunk
+  row = row-long b chunk held few long
+
+  module _ (k : ℕ) (e : q ≡ Starved k) where
+    -- An undecided front is short; and before a mark nothing is left.
+    left-few : length (drop k (take held b ++ chunk)) ≤ 260
+    left-few = go quiet (sym is ∙ e)
+      where
+        go : (quiet : Bool) → seek (upTo (endOf quiet) front) (take held b ++ chunk) ≡ Starved k → length (drop k (take held b ++ chunk)) ≤ 260
+        go false h = starved-goes cutting-harmless (take held b ++ chunk) k h .few
+        go true h = omega (arith, drain-all cutting-harmless (take held b ++ chunk) k h, length-drop k (take held b ++ chunk))
+
+    pub starved-in : k ≤ held + length chunk
+    starved-in = omega (arith, row, starved-is (cutting-harmless .scanning (endOf quiet)) (take held b ++ chunk) k (sym is ∙ e) .inside)
+
+    pub starved-few : held + length chunk - k ≤ 260
+    starved-few = omega (arith, row, left-few, length-drop k (take held b ++ chunk))
+
+    pub starved-step : (port : ℕ) (w : Settings) (room page y : List ℕ) (r : Stepped)
+        → r ≡ record { number = 1; taken = length chunk; skipped = k; saved = false; held = length (drop k (take held b ++ chunk)); settings = w }
+        → y ≡ padded (drop k (take held b ++ chunk))
+        → record { step = r; bytes = y; room = room; page = page } ≡ inPlace (stepAt port quiet (take held b) w chunk room page)
+    starved-step port w room page y r rs ys = rw (← is, e, rs, ys)
+
+  module _ (k n : ℕ) (good : Bool) (e : q ≡ Found k n good) where
+    sized : Sized mostUndecided (take held b ++ chunk) k n
+    sized = found-is (cutting-harmless .scanning (endOf quiet)) (take held b ++ chunk) k n good (sym is ∙ e) .sized
+
+    pub found-some : 1 ≤ n
+    found-some = sized .some
+
+    pub found-most : n ≤ 261
+    found-most = sized .most
+
+    pub found-in : k + n ≤ held + length chunk
+    found-in = omega (arith, row, sized .inside)
+
+    pub found-whole : (port : ℕ) (w : Settings) (room page : List ℕ) (x : Stepping)
+        → x ≡ inPlace (stepOn port (Found k n good) (take held b) w chunk room page)
+        → x ≡ inPlace (stepAt port quiet (take held b) w chunk room page)
+    found-whole port w room page x xs = rw (← is, e) xs
+
+-- ---- the bytes that a call brings
+
+module _ (quiet : Bool) (chunk : List ℕ) where
+  pub brings-none : quiet ≡ true → 0 ≡ length (chunkOf (inputOf quiet chunk))
+  brings-none e = rw e
+
+  pub brings-all : quiet ≡ false → length chunk ≡ length (chunkOf (inputOf quiet chunk))
+  brings-all e = rw e
+
+module _ (port : ℕ) (quiet : Bool) (chunk : List ℕ) (brings : ℕ) (bs : brings ≡ length (chunkOf (inputOf quiet chunk))) where
+  pub brings-inside : brings ≤ length chunk
+  brings-inside = rw bs (go quiet)
+    where
+      go : (quiet : Bool) → length (chunkOf (inputOf quiet chunk)) ≤ length chunk
+      go true = omega arith
+      go false = omega arith
+
+  pub step-brings : (held : List ℕ) (w : Settings) (room page : List ℕ)
+      → stepAt port quiet held w (take (brings - 0) (drop 0 chunk)) room page ≡ stepBy port held w (inputOf quiet chunk) room page
+  unfolding stepBy
+  step-brings held w room page = rw bs (go quiet)
+    where
+      go : (quiet : Bool) → stepAt port quiet held w (take (length (chunkOf (inputOf quiet chunk)) - 0) chunk) room page ≡ stepBy port held w (inputOf quiet chunk) room page
+      go true = refl
+      go false = rw (take-all (length chunk - 0) chunk (omega arith))
 
 -- ---- the step put back into the board
 
@@ -184,15 +232,7 @@ passes true n next h =
     absurd no
 passes false n next h = (refl, h)
 
-module _ (port : ℕ) (b : Board) (chunk room page : List ℕ) (n : ℕ) (ns : n ≡ feedNumber port (b .first .held) (b .second .held) (b .settings) room page) where
-  pub feed-refused : (n ≡ 0 → ⊥) → record { answer = record { number = n; taken = 0; skipped = 0; saved = false; board = b }; room = room; page = page } ≡ feedOf port b chunk room page
-  unfolding feedOf
-  feed-refused h = rw (← ns) (go n h)
-    where
-      go : (n : ℕ) → (n ≡ 0 → ⊥) → refusedFeeding n b room page ≡ acceptOn n port b chunk room page
-      go zero h = absurd (h refl)
-      go (suc n) h = refl
-
+module _ (port : ℕ) (b : Board) (room page : List ℕ) (n : ℕ) (ns : n ≡ feedNumber port (b .first .held) (b .second .held) (b .settings) room page) where
   sound : n ≡ 0 → (ltb 260 (b .first .held) ≡ false) × (ltb 260 (b .second .held) ≡ false)
   unfolding feedNumber unsound
   sound z =
@@ -207,17 +247,31 @@ module _ (port : ℕ) (b : Board) (chunk room page : List ℕ) (n : ℕ) (ns : n
   pub second-sound : n ≡ 0 → b .second .held ≤ 260
   second-sound z = ltb-false 260 (b .second .held) (sound z .1)
 
-  module _ (r : Fed) (roomAfter pageAfter : List ℕ) where
-    pub feed-on-first : n ≡ 0 → port ≡ 0 → record { answer = r; room = roomAfter; page = pageAfter } ≡ feedOn (stepOf port (heldBytes (b .first)) (b .settings) chunk room page) 0 b
-        → record { answer = r; room = roomAfter; page = pageAfter } ≡ feedOf port b chunk room page
-    unfolding feedOf
-    feed-on-first z p e = e ∙ rw (← ns, z, p)
-
-    pub feed-on-second : n ≡ 0 → (port ≡ 0 → ⊥) → record { answer = r; room = roomAfter; page = pageAfter } ≡ feedOn (stepOf port (heldBytes (b .second)) (b .settings) chunk room page) 1 b
-        → record { answer = r; room = roomAfter; page = pageAfter } ≡ feedOf port b chunk room page
-    unfolding feedOf
-    feed-on-second z p e = e ∙ rw (← ns, z) (go port p)
+  module _ (i : Input) where
+    pub feed-refused : (n ≡ 0 → ⊥) → record { answer = record { number = n; taken = 0; skipped = 0; saved = false; board = b }; room = room; page = page } ≡ callOf port b i room page
+    unfolding callOf
+    feed-refused h = rw (← ns) (go n h)
       where
-        go : (port : ℕ) → (port ≡ 0 → ⊥) → feedOn (stepOf port (heldBytes (b .second)) (b .settings) chunk room page) 1 b ≡ feedOn (stepOf port (heldBytes (portOf port b)) (b .settings) chunk room page) port b
+        go : (n : ℕ) → (n ≡ 0 → ⊥) → refusedFeeding n b room page ≡ acceptOn n port b i room page
+        go zero h = absurd (h refl)
+        go (suc n) h = refl
+
+  -- `brings` bytes of the chunk are handed on.
+  module _ (quiet : Bool) (chunk : List ℕ) (brings : ℕ) (bs : brings ≡ length (chunkOf (inputOf quiet chunk))) (r : Fed) (roomAfter pageAfter : List ℕ) where
+    pub call-on-first : n ≡ 0 → port ≡ 0
+        → record { answer = r; room = roomAfter; page = pageAfter } ≡ feedOn (stepAt port quiet (heldBytes (b .first)) (b .settings) (take (brings - 0) (drop 0 chunk)) room page) 0 b
+        → record { answer = r; room = roomAfter; page = pageAfter } ≡ callOf port b (inputOf quiet chunk) room page
+    unfolding callOf
+    call-on-first z p e = e ∙ rw (← ns, z, p, step-brings 0 quiet chunk brings bs (heldBytes (b .first)) (b .settings) room page)
+
+    pub call-on-second : n ≡ 0 → (port ≡ 0 → ⊥)
+        → record { answer = r; room = roomAfter; page = pageAfter } ≡ feedOn (stepAt port quiet (heldBytes (b .second)) (b .settings) (take (brings - 0) (drop 0 chunk)) room page) 1 b
+        → record { answer = r; room = roomAfter; page = pageAfter } ≡ callOf port b (inputOf quiet chunk) room page
+    unfolding callOf
+    call-on-second z p e = e ∙ rw (← ns, z, step-brings port quiet chunk brings bs (heldBytes (b .second)) (b .settings) room page) (go port p)
+      where
+        go : (port : ℕ) → (port ≡ 0 → ⊥)
+            → feedOn (stepBy port (heldBytes (b .second)) (b .settings) (inputOf quiet chunk) room page) 1 b
+            ≡ feedOn (stepBy port (heldBytes (portOf port b)) (b .settings) (inputOf quiet chunk) room page) port b
         go zero p = absurd (p refl)
         go (suc port) p = refl

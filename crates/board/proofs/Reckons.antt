@@ -1,4 +1,4 @@
--- Demand 3: from a start on a blank or sound page, every list of feeds goes as the plain reckoning says.
+-- Demand 3: from a start on a blank or sound page, every list of calls whose silences are drained goes as the plain reckoning says.
 use mathlib.Core.Bool.{Bool, true, false}
 use mathlib.Core.List.{List, [], _∷_}
 use mathlib.Core.Path.{_≡_, refl, sym, ap, _∙_, subst}
@@ -6,14 +6,17 @@ use Prim.Native.Nat.{ℕ, zero, suc, _≤_}
 use native.Mathlib.Omega.{arith}
 use lib.Dec.{eqb}
 use lib.ListN.{length}
-use Rattle.history.specs.Feeds.{Answer, Run, State, run}
-use Rattle.history.specs.Feeds.{Feed as FeedOf, portOf as keptPort}
+use Rattle.history.specs.Calls.{Answer, Run, State, run}
+use Rattle.history.specs.Calls.{Call as CallOf, portOf as keptPort}
 use Rattle.history.specs.Reckoning.{Ledger, heldOf}
 use Rattle.history.specs.Program.{heldStep, heldProgram}
-use Rattle.history.specs.Ports.{PortHistory, unfed, historyAfter, historyOf, PortAccount}
-use Rattle.history.specs.Theorems.{Matches}
+use Rattle.history.specs.Ports.{PortHistory, unfed, historyAfter, historyOf, PortSum, PortAccount}
+use Rattle.history.specs.Drained.{Undrained, noSilence, undrainedOf, undrainedAfter, early, unlessEarly, drainedFrom, drained}
+use Rattle.history.specs.Premises.{Matches}
 use Rattle.history.proofs.Accounts.{portAccounts}
-use Rattle.history.proofs.Demand.{demand3, heldFew}
+use Rattle.history.proofs.Demand.{demand3, drainedAlike}
+use Rattle.history.proofs.Silences.{feedsDrained}
+use Rattle.history.proofs.Sums.{heldFew, portSums}
 use Rattle.message.specs.Front.{front, mostUndecided}
 use Rattle.message.proofs.Framed.{cutting-harmless}
 use Rattle.page.specs.declared.setting.Values.{Values}
@@ -29,16 +32,16 @@ use Rattle.board.specs.declared.board.Board.{Board}
 use Rattle.board.specs.declared.board.Started.{Started}
 use Rattle.board.specs.Port.{portRoom, heldBytes, portHolding, portOf}
 use Rattle.board.specs.Start.{freshBoard, startOf}
-use Rattle.board.specs.Feed.{Feeding, feedOf}
+use Rattle.board.specs.Feed.{Feeding, callOf}
 use Rattle.board.specs.Handling.{Reckoned, Kept, loadedOf, settingsOf, reckonMessage, handleMessage, keptTests, StoredAs}
-use Rattle.board.specs.Runs.{Call, Calls, callsFrom, callsOn, feedFrom, feedsOf, reckonedOn, Told, AllTold}
-use Rattle.board.specs.Theorems.{AsReckoned, Demand3, OneMore, answersOf, historyOn, heldOn, PortAddsUp, SumLaw, ReportsScanned}
+use Rattle.board.specs.Runs.{Call, Calls, callsFrom, callsOn, callFrom, toldOf, reckonedOn, Told, AllTold}
+use Rattle.board.specs.Theorems.{AsReckoned, Demand3, FeedsDemand3, OneMore, answersOf, AnyListsAddUp, DrainedOn, DrainedAlike, historyOn, heldOn, PortAddsUp, SumLaw, ReportsScanned}
 use Rattle.board.proofs.Handles.{loaded-same, loaded-usable, handles}
 use Rattle.board.proofs.Steps.{stateOf, Padded, Same, step-same}
 
--- ---- lists of feeds of the board are lists of feeds of the program that keeps only held bytes
+-- ---- lists of calls of the board are lists of calls of the program that keeps only held bytes
 
-abbrev programFrom : State (List ℕ) Kept → List FeedOf → Run (State (List ℕ) Kept)
+abbrev programFrom : State (List ℕ) Kept → List CallOf → Run (State (List ℕ) Kept)
 programFrom s fs = run (heldStep front handleMessage 260 replyRoom keptTests) s fs
 
 pub record Followed (cs : List Call) (r : Calls) (q : Run (State (List ℕ) Kept)) : Type 0 where
@@ -46,15 +49,29 @@ pub record Followed (cs : List Call) (r : Calls) (q : Run (State (List ℕ) Kept
   pub final : q .final ≡ stateOf (r .board) (r .page)
   pub padded : Padded (r .board)
 
-followed : (cs : List Call) (b : Board) (page : List ℕ) → Padded b → Followed cs (callsFrom b page cs) (programFrom (stateOf b page) (feedsOf cs))
+followed : (cs : List Call) (b : Board) (page : List ℕ) → Padded b → Followed cs (callsFrom b page cs) (programFrom (stateOf b page) (toldOf cs))
 unfolding callsFrom run
 followed [] b page k = record { told = tt; final = refl; padded = k }
 followed (c ∷ cs) b page k =
-    let f : Feeding = feedOf (c .port) b (c .chunk) (c .room) page in
-    let s : Same b c f (heldStep front handleMessage 260 replyRoom keptTests (stateOf b page) (feedFrom c)) = step-same b page c k in
-    let rest : Followed cs (callsFrom (f .answer .board) (f .page) cs) (programFrom (stateOf (f .answer .board) (f .page)) (feedsOf cs)) =
+    let f : Feeding = callOf (c .port) b (c .input) (c .room) page in
+    let s : Same b c f (heldStep front handleMessage 260 replyRoom keptTests (stateOf b page) (callFrom c)) = step-same b page c k in
+    let rest : Followed cs (callsFrom (f .answer .board) (f .page) cs) (programFrom (stateOf (f .answer .board) (f .page)) (toldOf cs)) =
     followed cs (f .answer .board) (f .page) (s .padded) in
     rw (s .state) (record { told = (s .told, rest .told); final = rest .final; padded = rest .padded })
+
+-- Answers that tell the same numbers tell alike whether the list is drained.
+told-drained : (u : Undrained) (cs : List Call) (fs : List Feeding) (answers : List Answer) → AllTold cs fs answers
+    → drainedFrom u (toldOf cs) (answersOf fs) ≡ drainedFrom u (toldOf cs) answers
+unfolding drainedFrom
+told-drained u [] [] [] e = refl
+told-drained u [] [] (a ∷ answers) e = absurd e
+told-drained u [] (f ∷ fs) answers e = absurd e
+told-drained u (c ∷ cs) [] answers e = absurd e
+told-drained u (c ∷ cs) (f ∷ fs) [] e = absurd e
+told-drained u (c ∷ cs) (f ∷ fs) (a ∷ answers) e =
+    rw (e .0 .number)
+    (ap (unlessEarly (early (c .input) (a .number) (undrainedOf (c .port) u)))
+    (told-drained (undrainedAfter (callFrom c) (a .number) u) cs fs answers (e .1)))
 
 -- Where that program matches the reckoning, the calls go as reckoned.
 pub followed-reckoned : (cs : List Call) (r : Calls) (p : Run (State (List ℕ) Kept)) (q : Run (State Ledger Reckoned)) → Followed cs r p → Matches StoredAs q p
@@ -101,53 +118,83 @@ module _ (v : Values) (cs : List Call) (a : allStorable v ≡ true) where
   reckoned = reckonedOn v cs
 
   abbrev program : Run (State (List ℕ) Kept)
-  program = programFrom (stateOf (freshBoard w) (writing v)) (feedsOf cs)
+  program = programFrom (stateOf (freshBoard w) (writing v)) (toldOf cs)
 
   stored : StoredAs (record { settings = w; page = v }) (record { settings = w; page = writing v })
   stored = record { settings = refl; page = refl; settings-usable = settings-usable v a; values-storable = a }
 
-  matched : Matches StoredAs reckoned program
-  unfolding heldProgram
-  matched =
-      demand3 front mostUndecided replyRoom StoredAs reckonMessage keptTests handleMessage cutting-harmless handles
-      (record { settings = w; page = v }) (record { settings = w; page = writing v }) (feedsOf cs) stored
+  follows : Followed cs calls program
+  follows = followed cs (freshBoard w) (writing v) (fresh-padded w)
 
   few : (p : ℕ) → length (keptPort p (program .final)) ≤ portRoom
   unfolding heldProgram
-  few p =
-      heldFew front mostUndecided replyRoom StoredAs reckonMessage keptTests handleMessage cutting-harmless handles p
-      (record { settings = w; page = v }) (record { settings = w; page = writing v }) (feedsOf cs) stored
+  few p = heldFew front mostUndecided replyRoom keptTests handleMessage cutting-harmless p (record { settings = w; page = writing v }) (toldOf cs)
 
-  whole : AsReckoned cs calls reckoned
-  whole = followed-reckoned cs calls program reckoned (followed cs (freshBoard w) (writing v) (fresh-padded w)) matched (few 0) (few 1)
+  -- Whether the list is drained, the calls' own answers, the program's and the reckoning's tell alike.
+  program-alike : drained (toldOf cs) (answersOf (calls .feedings)) ≡ drained (toldOf cs) (program .answers)
+  program-alike = told-drained noSilence cs (calls .feedings) (program .answers) (follows .told)
+
+  reckoned-alike : drained (toldOf cs) (answersOf (calls .feedings)) ≡ drained (toldOf cs) (reckoned .answers)
+  unfolding heldProgram
+  reckoned-alike =
+      program-alike
+      ∙ drainedAlike front mostUndecided replyRoom StoredAs reckonMessage keptTests handleMessage cutting-harmless handles
+      (record { settings = w; page = v }) (record { settings = w; page = writing v }) (toldOf cs) stored
+
+  matched : drained (toldOf cs) (answersOf (calls .feedings)) ≡ true → Matches StoredAs reckoned program
+  unfolding heldProgram
+  matched d =
+      demand3 front mostUndecided replyRoom StoredAs reckonMessage keptTests handleMessage cutting-harmless handles
+      (record { settings = w; page = v }) (record { settings = w; page = writing v }) (toldOf cs) stored (sym reckoned-alike ∙ d)
+
+  whole : drained (toldOf cs) (answersOf (calls .feedings)) ≡ true → AsReckoned cs calls reckoned
+  whole d = followed-reckoned cs calls program reckoned follows (matched d) (few 0) (few 1)
 
   port-held : (port : ℕ) → keptPort port (program .final) ≡ heldBytes (portOf port (calls .board))
-  port-held port =
-      let f : Followed cs calls program = followed cs (freshBoard w) (writing v) (fresh-padded w) in
-      ap (keptPort port) (f .final) ∙ by-port port
+  port-held port = ap (keptPort port) (follows .final) ∙ by-port port
     where
       by-port : (port : ℕ) → keptPort port (stateOf (calls .board) (calls .page)) ≡ heldBytes (portOf port (calls .board))
       by-port zero = refl
       by-port (suc p) = refl
 
-  account : (port : ℕ) → port ≤ 1 → PortAccount front mostUndecided (historyOf port unfed (feedsOf cs) (program .answers)) (keptPort port (program .final))
+  sums : (port : ℕ) → port ≤ 1 → PortSum mostUndecided (historyOf port unfed (toldOf cs) (program .answers)) (heldBytes (portOf port (calls .board)))
   unfolding heldProgram
-  account port h =
-      portAccounts front mostUndecided replyRoom StoredAs reckonMessage keptTests handleMessage cutting-harmless handles port
-      (record { settings = w; page = v }) (record { settings = w; page = writing v }) (feedsOf cs) h stored
+  sums port h =
+      rw (← port-held port)
+      (portSums front mostUndecided replyRoom keptTests handleMessage cutting-harmless port (record { settings = w; page = writing v }) (toldOf cs) h)
 
-  added : (port : ℕ) → port ≤ 1 → PortAccount front mostUndecided (historyOf port unfed (feedsOf cs) (reckoned .answers)) (heldBytes (portOf port (calls .board)))
-  added port h = rw (← matched .answers, ← port-held port) (account port h)
+  account : (port : ℕ) → port ≤ 1 → drained (toldOf cs) (answersOf (calls .feedings)) ≡ true → PortAccount front (historyOf port unfed (toldOf cs) (program .answers))
+  unfolding heldProgram
+  account port h d =
+      portAccounts front mostUndecided replyRoom StoredAs reckonMessage keptTests handleMessage cutting-harmless handles port
+      (record { settings = w; page = v }) (record { settings = w; page = writing v }) (toldOf cs) h stored (sym program-alike ∙ d)
+
+  scanned : (port : ℕ) → port ≤ 1 → drained (toldOf cs) (answersOf (calls .feedings)) ≡ true → PortAccount front (historyOf port unfed (toldOf cs) (reckoned .answers))
+  scanned port h d = rw (← matched d .answers) (account port h d)
+
+  summed : (port : ℕ) → port ≤ 1 → drained (toldOf cs) (answersOf (calls .feedings)) ≡ true
+      → PortSum mostUndecided (historyOf port unfed (toldOf cs) (reckoned .answers)) (heldBytes (portOf port (calls .board)))
+  summed port h d = rw (← matched d .answers) (sums port h)
+
+-- A start on the page of storable values gives the fresh board.
+start-board : (v : Values) → allStorable v ≡ true → startOf (writing v) .board ≡ freshBoard (settingsOf v)
+start-board v a = ap (λ (s : Started). s .board) (started v a)
+
+pub any-lists-add-up : AnyListsAddUp
+unfolding heldProgram
+any-lists-add-up v cs a =
+    record { told = rw (start-board v a) (follows v cs a .told); sums = λ port h. rw (start-board v a) (sums v cs a port h) }
+
+pub drained-alike : DrainedAlike
+drained-alike v cs a = rw (start-board v a) (reckoned-alike v cs a)
 
 pub reports-scanned : ReportsScanned
-reports-scanned v cs port a h =
-    let b : startOf (writing v) .board ≡ freshBoard (settingsOf v) = ap (λ (s : Started). s .board) (started v a) in
-    rw b (added v cs a port h)
+reports-scanned v cs port a h d =
+    let e = rw (start-board v a) at d in
+    (rw (start-board v a) (summed v cs a port h e), scanned v cs a port h e)
 
-as-reckoned : (v : Values) (cs : List Call) → allStorable v ≡ true → AsReckoned cs (callsOn v cs) (reckonedOn v cs)
-as-reckoned v cs a =
-    let b : startOf (writing v) .board ≡ freshBoard (settingsOf v) = ap (λ (s : Started). s .board) (started v a) in
-    rw b (whole v cs a)
+as-reckoned : (v : Values) (cs : List Call) → allStorable v ≡ true → DrainedOn v cs → AsReckoned cs (callsOn v cs) (reckonedOn v cs)
+as-reckoned v cs a d = rw (start-board v a) (whole v cs a (rw (start-board v a) at d))
 
 -- ---- every page that starting accepts
 
@@ -161,37 +208,40 @@ page-sound page e = go (eqb (length page) pageSize) refl (sound page) refl
     go true p false q = let z : _≡_ {A = ℕ} 0 20 = cc in absurd (omega arith)
 
 pub board-demand3 : Demand3
-board-demand3 page cs e =
+board-demand3 page cs e d =
     let i = sound-is-writing page (page-sound page e) in
     record {
       values = valuesIn page;
       storable-values = i .storable-values;
       written = i .written;
       started = ap (λ (p : List ℕ). startOf p .number) (i .written) ∙ ap (λ (s : Started). s .number) (started (valuesIn page) (i .storable-values));
-      reckoned = as-reckoned (valuesIn page) cs (i .storable-values);
+      reckoned = as-reckoned (valuesIn page) cs (i .storable-values) (rw (i .written) at d);
     }
+
+pub feeds-demand3 : FeedsDemand3
+feeds-demand3 page cs e f = board-demand3 page cs e (feedsDrained (toldOf cs) (answersOf (callsFrom (startOf page .board) page cs .feedings)) f)
 
 pub one-more : OneMore
 unfolding callsFrom
 one-more b page [] c = refl
 one-more b page (d ∷ cs) c =
-    let f : Feeding = feedOf (d .port) b (d .chunk) (d .room) page in
+    let f : Feeding = callOf (d .port) b (d .input) (d .room) page in
     ap (λ (r : Calls). record { feedings = f ∷ r .feedings; board = r .board; page = r .page }) (one-more (f .answer .board) (f .page) cs c)
 
 -- ---- the sum law, by the calls' own answers
 
 -- A history but for the messages reported, which the calls' own answers do not name.
 abbrev unnamed : PortHistory → PortHistory
-unnamed t = record { bytes = t .bytes; taken = t .taken; count = t .count; skips = t .skips; reports = []; last = t .last }
+unnamed t = record { stream = t .stream; taken = t .taken; count = t .count; skips = t .skips; reports = []; last = t .last }
 
 after-unnamed : (m : Bool) (t : PortHistory) (c : Call) (f : Feeding) (a : Answer) → Told c f a
-    → historyAfter m (unnamed t) (c .chunk) (record { number = f .answer .number; taken = f .answer .taken; skipped = f .answer .skipped; saved = f .answer .saved; reply = []; reports = [] })
-    ≡ unnamed (historyAfter m t (c .chunk) a)
+    → historyAfter m (unnamed t) (c .input) (record { number = f .answer .number; taken = f .answer .taken; skipped = f .answer .skipped; saved = f .answer .saved; reply = []; reports = [] })
+    ≡ unnamed (historyAfter m t (c .input) a)
 after-unnamed false t c f a e = refl
 after-unnamed true t c f a e = rw (e .number, e .taken, e .skipped)
 
 same-history : (port : ℕ) (t : PortHistory) (cs : List Call) (fs : List Feeding) (answers : List Answer) → AllTold cs fs answers
-    → historyOf port (unnamed t) (feedsOf cs) (answersOf fs) ≡ unnamed (historyOf port t (feedsOf cs) answers)
+    → historyOf port (unnamed t) (toldOf cs) (answersOf fs) ≡ unnamed (historyOf port t (toldOf cs) answers)
 unfolding historyOf
 same-history port t [] [] [] e = refl
 same-history port t [] [] (a ∷ answers) e = absurd e
@@ -200,21 +250,22 @@ same-history port t (c ∷ cs) [] answers e = absurd e
 same-history port t (c ∷ cs) (f ∷ fs) [] e = absurd e
 same-history port t (c ∷ cs) (f ∷ fs) (a ∷ answers) e =
     rw (after-unnamed (eqb (c .port) port) t c f a (e .0))
-    (same-history port (historyAfter (eqb (c .port) port) t (c .chunk) a) cs fs answers (e .1))
+    (same-history port (historyAfter (eqb (c .port) port) t (c .input) a) cs fs answers (e .1))
 
-unnamed-adds : (t : PortHistory) (held : List ℕ) → PortAccount front mostUndecided t held → PortAddsUp (unnamed t) held
-unnamed-adds t held k =
+unnamed-adds : (t : PortHistory) (held : List ℕ) → PortSum mostUndecided t held → PortAccount front t → PortAddsUp (unnamed t) held
+unnamed-adds t held s k =
     record {
-      few = k .few;
-      taken = k .taken;
-      sum = rw (← k .first) (k .sum);
-      rest = rw (← k .first) (k .rest);
+      few = s .few;
+      taken = s .taken;
+      sum = rw (← k .first) (s .sum);
+      rest = rw (← k .first) (s .rest);
       all = λ e. sym (k .first) ∙ k .all e;
       all-skips = k .all-skips;
     }
 
 pub sum-law : SumLaw
-sum-law v cs port a h =
-    let e : historyOn v cs port ≡ unnamed (historyOf port unfed (feedsOf cs) (reckonedOn v cs .answers)) =
-    same-history port unfed cs (callsOn v cs .feedings) (reckonedOn v cs .answers) (as-reckoned v cs a .told) in
-    rw e (unnamed-adds (historyOf port unfed (feedsOf cs) (reckonedOn v cs .answers)) (heldOn v cs port) (reports-scanned v cs port a h))
+sum-law v cs port a h d =
+    let e : historyOn v cs port ≡ unnamed (historyOf port unfed (toldOf cs) (reckonedOn v cs .answers)) =
+    same-history port unfed cs (callsOn v cs .feedings) (reckonedOn v cs .answers) (as-reckoned v cs a d .told) in
+    let t = reports-scanned v cs port a h d in
+    rw e (unnamed-adds (historyOf port unfed (toldOf cs) (reckonedOn v cs .answers)) (heldOn v cs port) (t .0) (t .1))

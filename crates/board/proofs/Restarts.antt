@@ -1,14 +1,19 @@
--- Demand 3 over histories: from a start on a blank or sound page, every list of feeds and restarts goes as the plain reckoning says.
+-- Demand 3 over histories: from a start on a blank or sound page, every list of calls and restarts whose silences are drained goes as the
+-- plain reckoning says.
+use mathlib.Core.Bool.{true}
 use mathlib.Core.List.{List, [], _∷_}
 use mathlib.Core.Path.{_≡_, refl, sym, ap, subst, _∙_}
 use Prim.Native.Nat.{ℕ, zero, suc, _≤_}
 use lib.ListN.{length}
-use Rattle.history.specs.Feeds.{Run, State}
-use Rattle.history.specs.Feeds.{Feed as FeedOf, portOf as keptPort}
+use Rattle.history.specs.Calls.{Answer, Run, State}
+use Rattle.history.specs.Calls.{Call as CallOf, portOf as keptPort}
+use Rattle.history.specs.Drained.{Undrained, noSilence, undrainedOf, undrainedAfter, early, unlessEarly}
+use Rattle.history.specs.Premises.{Matches}
 use Rattle.history.specs.Program.{heldStep}
-use Rattle.history.specs.Restarts.{Act, call, restart, historyFrom, startedOn, heldHistory}
-use Rattle.history.specs.Theorems.{Matches}
-use Rattle.history.proofs.Restarts.{restarts-match, restarts-held-few}
+use Rattle.history.specs.Restarts.{Act, call, restart, historyFrom, startedOn, heldHistory, drainedActs, drainedHistory}
+use Rattle.history.proofs.Restarts.{restarts-match, restarts-drained-alike}
+use Rattle.history.proofs.Silences.{fedActsDrained}
+use Rattle.history.proofs.Sound.{restarts-stay-sound}
 use Rattle.message.specs.Front.{front, mostUndecided}
 use Rattle.message.proofs.Framed.{cutting-harmless}
 use Rattle.page.specs.declared.setting.Values.{Values}
@@ -20,12 +25,13 @@ use Rattle.board.specs.declared.board.Board.{Board}
 use Rattle.board.specs.declared.board.Started.{Started}
 use Rattle.board.specs.Port.{portRoom}
 use Rattle.board.specs.Start.{freshBoard, startOn, startOf}
-use Rattle.board.specs.Feed.{Feeding, feedOf}
+use Rattle.board.specs.Feed.{Feeding, callOf}
 use Rattle.board.specs.Handling.{Reckoned, Kept, settingsOf, reckonMessage, handleMessage, keptTests, StoredAs}
-use Rattle.board.specs.Runs.{Call, Calls, feedFrom}
+use Rattle.board.specs.Runs.{Call, Calls, callFrom, AllTold}
 use Rattle.board.specs.Histories.{actsFrom, actsOn, acceptedFrom, acceptedOn}
-use Rattle.board.specs.Restarts.{callsIn, feedActs, startAnew, reckonedActs, acceptedIn, HistoryDemand3}
-use Rattle.board.proofs.Feedings.{feeds-keep}
+use Rattle.board.specs.Theorems.{answersOf}
+use Rattle.board.specs.Restarts.{callsIn, toldActs, startAnew, reckonedActs, acceptedIn, HistoryDemand3, HistoryFeedsDemand3, HistoryDrainedAlike}
+use Rattle.board.proofs.Feedings.{calls-keep}
 use Rattle.board.proofs.Handles.{handles}
 use Rattle.board.proofs.Reckons.{Followed, followed-reckoned, settings-usable, started, fresh-padded, page-sound}
 use Rattle.board.proofs.Steps.{stateOf, Padded, Same, step-same}
@@ -63,7 +69,7 @@ starts-alike x y r =
 
 -- ---- histories of the board are histories of that program
 
-abbrev programFrom : State (List ℕ) Kept → List (Act FeedOf) → Run (State (List ℕ) Kept)
+abbrev programFrom : State (List ℕ) Kept → List (Act CallOf) → Run (State (List ℕ) Kept)
 programFrom s acts = historyFrom (heldStep front handleMessage 260 replyRoom keptTests) (λ s. startedOn [] startKept (s .values)) s acts
 
 record FollowedActs (acts : List (Act Call)) (r : Calls) (ns : List ℕ) (q : Run (State (List ℕ) Kept)) : Type 0 where
@@ -71,17 +77,17 @@ record FollowedActs (acts : List (Act Call)) (r : Calls) (ns : List ℕ) (q : Ru
   accepted-told : ns ≡ acceptedIn (q .answers)
 
 from-start : (x : Kept) (acts : List (Act Call)) (r : Calls) (ns : List ℕ)
-    → FollowedActs acts r ns (programFrom (stateOf (startOf (x .page) .board) (x .page)) (feedActs acts))
-    → FollowedActs acts r ns (programFrom (startedOn [] startKept x) (feedActs acts))
-from-start x acts r ns f = subst (λ (s : State (List ℕ) Kept). FollowedActs acts r ns (programFrom s (feedActs acts))) (sym (start-state x)) f
+    → FollowedActs acts r ns (programFrom (stateOf (startOf (x .page) .board) (x .page)) (toldActs acts))
+    → FollowedActs acts r ns (programFrom (startedOn [] startKept x) (toldActs acts))
+from-start x acts r ns f = subst (λ (s : State (List ℕ) Kept). FollowedActs acts r ns (programFrom s (toldActs acts))) (sym (start-state x)) f
 
 followed : (acts : List (Act Call)) (b : Board) (page : List ℕ) → Padded b
-    → FollowedActs acts (actsFrom b page acts) (acceptedFrom b page acts) (programFrom (stateOf b page) (feedActs acts))
+    → FollowedActs acts (actsFrom b page acts) (acceptedFrom b page acts) (programFrom (stateOf b page) (toldActs acts))
 unfolding actsFrom acceptedFrom historyFrom
 followed [] b page k = record { calls-told = record { told = tt; final = refl; padded = k }; accepted-told = refl }
 followed (call c ∷ acts) b page k =
-    let f : Feeding = feedOf (c .port) b (c .chunk) (c .room) page in
-    let s : Same b c f (heldStep front handleMessage 260 replyRoom keptTests (stateOf b page) (feedFrom c)) = step-same b page c k in
+    let f : Feeding = callOf (c .port) b (c .input) (c .room) page in
+    let s : Same b c f (heldStep front handleMessage 260 replyRoom keptTests (stateOf b page) (callFrom c)) = step-same b page c k in
     let rest = followed acts (f .answer .board) (f .page) (s .padded) in
     let t = rest .calls-told in
     rw (s .state)
@@ -95,6 +101,20 @@ followed (restart ∷ acts) b page k =
     let t = f .calls-told in
     record { calls-told = record { told = t .told; final = t .final; padded = t .padded }; accepted-told = f .accepted-told }
 
+-- Answers that tell the same numbers tell alike whether the history is drained.
+told-drained : (u : Undrained) (acts : List (Act Call)) (fs : List Feeding) (answers : List Answer) → AllTold (callsIn acts) fs answers
+    → drainedActs u (toldActs acts) (answersOf fs) ≡ drainedActs u (toldActs acts) answers
+unfolding drainedActs
+told-drained u [] [] answers e = refl
+told-drained u [] (f ∷ fs) answers e = refl
+told-drained u (restart ∷ acts) fs answers e = told-drained noSilence acts fs answers e
+told-drained u (call c ∷ acts) [] answers e = absurd e
+told-drained u (call c ∷ acts) (f ∷ fs) [] e = absurd e
+told-drained u (call c ∷ acts) (f ∷ fs) (a ∷ answers) e =
+    rw (e .0 .number)
+    (ap (unlessEarly (early (c .input) (a .number) (undrainedOf (c .port) u)))
+    (told-drained (undrainedAfter (callFrom c) (a .number) u) acts fs answers (e .1)))
+
 -- ---- every start is done
 
 start-done : (page : List ℕ) → pageNumber page ≡ 0 → startOf page .number ≡ 0
@@ -105,31 +125,68 @@ acts-passing : (b : Board) (page : List ℕ) (acts : List (Act Call)) → pageNu
 unfolding actsFrom
 acts-passing b page [] e = e
 acts-passing b page (call c ∷ acts) e =
-    let f : Feeding = feedOf (c .port) b (c .chunk) (c .room) page in
-    acts-passing (f .answer .board) (f .page) acts (feeds-keep (c .port) b (c .chunk) (c .room) page .page-sound e)
+    let f : Feeding = callOf (c .port) b (c .input) (c .room) page in
+    acts-passing (f .answer .board) (f .page) acts (calls-keep (c .port) b (c .input) (c .room) page .page-sound e)
 acts-passing b page (restart ∷ acts) e = acts-passing (startOf page .board) page acts e
 
 -- ---- the whole
 
+module _ (page : List ℕ) (acts : List (Act Call)) (e : pageNumber page ≡ 0) where
+  abbrev values : Values
+  values = valuesIn page
+
+  abbrev kept : Kept
+  kept = record { settings = settingsOf values; page = page }
+
+  abbrev reckoned : Reckoned
+  reckoned = record { settings = settingsOf values; page = values }
+
+  abbrev program : Run (State (List ℕ) Kept)
+  program = programFrom (startedOn [] startKept kept) (toldActs acts)
+
+  stored : StoredAs reckoned kept
+  stored =
+      let i = sound-is-writing page (page-sound page e) in
+      record { settings = refl; page = i .written; settings-usable = settings-usable values (i .storable-values); values-storable = i .storable-values }
+
+  few : (port : ℕ) → length (keptPort port (program .final)) ≤ portRoom
+  unfolding heldHistory
+  few =
+      restarts-stay-sound front mostUndecided replyRoom StoredAs reckonMessage keptTests handleMessage startAnew startKept cutting-harmless handles starts-alike
+      reckoned kept (toldActs acts) stored .few
+
+  follows : FollowedActs acts (actsOn page acts) (acceptedOn page acts) program
+  follows = from-start kept acts (actsOn page acts) (acceptedOn page acts) (followed acts (startOf page .board) page (start-padded page))
+
+  alike : drainedHistory (toldActs acts) (answersOf (actsOn page acts .feedings)) ≡ drainedHistory (toldActs acts) (reckonedActs values acts .answers)
+  unfolding heldHistory
+  alike =
+      told-drained noSilence acts (actsOn page acts .feedings) (program .answers) (follows .calls-told .told)
+      ∙ restarts-drained-alike front mostUndecided replyRoom StoredAs reckonMessage keptTests handleMessage startAnew startKept cutting-harmless handles starts-alike
+      reckoned kept (toldActs acts) stored
+
+  matched : drainedHistory (toldActs acts) (answersOf (actsOn page acts .feedings)) ≡ true → Matches StoredAs (reckonedActs values acts) program
+  unfolding heldHistory
+  matched d =
+      restarts-match front mostUndecided replyRoom StoredAs reckonMessage keptTests handleMessage startAnew startKept cutting-harmless handles starts-alike
+      reckoned kept (toldActs acts) stored (sym alike ∙ d)
+
+pub history-drained-alike : HistoryDrainedAlike
+history-drained-alike = alike
+
 pub history-demand3 : HistoryDemand3
-unfolding heldHistory
-history-demand3 page acts e =
-    let v : Values = valuesIn page in
+history-demand3 page acts e d =
     let i = sound-is-writing page (page-sound page e) in
-    let x : Reckoned = record { settings = settingsOf v; page = v } in
-    let y : Kept = record { settings = settingsOf v; page = page } in
-    let r : StoredAs x y = record { settings = refl; page = i .written; settings-usable = settings-usable v (i .storable-values); values-storable = i .storable-values } in
-    let p : Run (State (List ℕ) Kept) = programFrom (startedOn [] startKept y) (feedActs acts) in
-    let few : (port : ℕ) → length (keptPort port (p .final)) ≤ portRoom =
-    λ port. restarts-held-few front mostUndecided replyRoom StoredAs reckonMessage keptTests handleMessage startAnew startKept cutting-harmless handles starts-alike port x y (feedActs acts) r in
-    let m : Matches StoredAs (reckonedActs v acts) p =
-    restarts-match front mostUndecided replyRoom StoredAs reckonMessage keptTests handleMessage startAnew startKept cutting-harmless handles starts-alike x y (feedActs acts) r in
-    let f = from-start y acts (actsOn page acts) (acceptedOn page acts) (followed acts (startOf page .board) page (start-padded page)) in
+    let m = matched page acts e d in
+    let f = follows page acts e in
     record {
-      values = v;
+      values = valuesIn page;
       storable-values = i .storable-values;
       written = i .written;
-      reckoned = followed-reckoned (callsIn acts) (actsOn page acts) p (reckonedActs v acts) (f .calls-told) m (few 0) (few 1);
+      reckoned = followed-reckoned (callsIn acts) (actsOn page acts) (program page acts e) (reckonedActs (valuesIn page) acts) (f .calls-told) m (few page acts e 0) (few page acts e 1);
       started = start-done (actsOn page acts .page) (acts-passing (startOf page .board) page acts e);
       accepted = f .accepted-told ∙ ap acceptedIn (m .answers);
     }
+
+pub history-feeds-demand3 : HistoryFeedsDemand3
+history-feeds-demand3 page acts e f = history-demand3 page acts e (fedActsDrained (toldActs acts) (answersOf (actsOn page acts .feedings)) f)

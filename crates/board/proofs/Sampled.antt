@@ -1,6 +1,7 @@
 -- The sample lines and the examples, computed.
 use mathlib.Core.Path.{refl}
 use Rattle.stream.specs.Seek.{seek}
+use Rattle.history.specs.Restarts.{drainedActs}
 use Rattle.message.specs.Message.{messageOf, sumsRight}
 use Rattle.message.specs.Front.{front}
 use Rattle.message.specs.Fields.{fieldsOf}
@@ -18,21 +19,26 @@ use Rattle.command.specs.Effects.{startSettings, settingsUsable}
 use Rattle.command.specs.Answer.{lookedUp, loadedFrom, answering}
 use Rattle.board.specs.Port.{portHolding}
 use Rattle.board.specs.Start.{startOf}
-use Rattle.board.specs.Feed.{unsound, feedNumber, stepOf, feedOf}
+use Rattle.board.specs.Feed.{unsound, feedNumber, stepBy, callOf}
 use Rattle.board.specs.Runs.{callsFrom}
 use Rattle.board.specs.Samples.{SampleLines}
 use Rattle.board.specs.Histories.{actsFrom, acceptedFrom}
 use Rattle.board.specs.Examples.{ExampleLines}
 use Rattle.board.specs.Older.{OlderLines}
+use Rattle.board.specs.Quiet.{QuietLines}
 
 pub sample-lines : SampleLines
-unfolding seek messageOf sumsRight front fieldsOf settingOf usable storable allStorable writing factoryPage entryFrom entryOf partOf bodyOf heldUnder valuesIn sound pageNumber pageWriting commandOf subjectOf fieldWrong fieldError commandError fieldOutcome fieldsOutcome commandOutcome messageOutcome receivedOf lookedUp loadedFrom startSettings answering settingsUsable portHolding startOf unsound feedNumber stepOf feedOf callsFrom
+unfolding seek messageOf sumsRight front fieldsOf settingOf usable storable allStorable writing factoryPage entryFrom entryOf partOf bodyOf heldUnder valuesIn sound pageNumber pageWriting commandOf subjectOf fieldWrong fieldError commandError fieldOutcome fieldsOutcome commandOutcome messageOutcome receivedOf lookedUp loadedFrom startSettings answering settingsUsable portHolding startOf unsound feedNumber stepBy callOf callsFrom
 sample-lines = refl
 
 pub example-lines : ExampleLines
-unfolding seek messageOf sumsRight front fieldsOf settingOf usable storable allStorable writing factoryPage entryFrom entryOf partOf bodyOf heldUnder valuesIn sound pageNumber pageWriting commandOf subjectOf fieldWrong fieldError commandError numberError fieldOutcome fieldsOutcome commandOutcome numberedOutcome messageOutcome receivedOf lookedUp loadedFrom startSettings answering settingsUsable portHolding startOf unsound feedNumber stepOf feedOf carried actsFrom acceptedFrom
+unfolding seek messageOf sumsRight front fieldsOf settingOf usable storable allStorable writing factoryPage entryFrom entryOf partOf bodyOf heldUnder valuesIn sound pageNumber pageWriting commandOf subjectOf fieldWrong fieldError commandError numberError fieldOutcome fieldsOutcome commandOutcome numberedOutcome messageOutcome receivedOf lookedUp loadedFrom startSettings answering settingsUsable portHolding startOf unsound feedNumber stepBy callOf carried actsFrom acceptedFrom
 example-lines = refl
 
 pub older-lines : OlderLines
-unfolding seek messageOf sumsRight front fieldsOf settingOf usable storable allStorable writing factoryPage entryFrom entryOf partOf bodyOf heldUnder valuesIn sound pageNumber pageWriting commandOf subjectOf fieldWrong fieldError commandError numberError fieldOutcome fieldsOutcome commandOutcome numberedOutcome messageOutcome receivedOf lookedUp loadedFrom startSettings answering settingsUsable portHolding startOf unsound feedNumber stepOf feedOf carried actsFrom acceptedFrom
+unfolding seek messageOf sumsRight front fieldsOf settingOf usable storable allStorable writing factoryPage entryFrom entryOf partOf bodyOf heldUnder valuesIn sound pageNumber pageWriting commandOf subjectOf fieldWrong fieldError commandError numberError fieldOutcome fieldsOutcome commandOutcome numberedOutcome messageOutcome receivedOf lookedUp loadedFrom startSettings answering settingsUsable portHolding startOf unsound feedNumber stepBy callOf carried actsFrom acceptedFrom
 older-lines = record { lines = refl; numbers = refl }
+
+pub quiet-lines : QuietLines
+unfolding seek messageOf sumsRight front fieldsOf settingOf usable storable allStorable writing factoryPage entryFrom entryOf partOf bodyOf heldUnder valuesIn sound pageNumber pageWriting commandOf subjectOf fieldWrong fieldError commandError numberError fieldOutcome fieldsOutcome commandOutcome numberedOutcome messageOutcome receivedOf lookedUp loadedFrom startSettings answering settingsUsable portHolding startOf unsound feedNumber stepBy callOf carried actsFrom acceptedFrom drainedActs
+quiet-lines = record { lines = refl; drained = refl }

@@ -1,4 +1,4 @@
--- A feed of the board is a feed of the program that keeps only held bytes.
+-- A call of the board is a call of the program that keeps only held bytes.
 use mathlib.Core.Bool.{Bool, true, false, _||_, not}
 use mathlib.Core.List.{List, _++_}
 use mathlib.Core.Path.{_≡_, refl, sym, ap, subst, _∙_}
@@ -8,10 +8,10 @@ use lib.ListN.{length, take, drop}
 use borrow.Author.Tests.{ltb-false}
 use Rattle.stream.specs.declared.Sought.{Sought}
 use Rattle.stream.specs.declared.Sought.the-variants.{Starved, Found}
-use Rattle.stream.specs.Seek.{seek, resume, skippedBy}
-use Rattle.history.specs.Feeds.{Step, State, Turn, refused, settled, accept}
-use Rattle.history.specs.Feeds.{refuse as refuseStep, portOf as keptPort}
-use Rattle.history.specs.Program.{heldOn, heldFeed, heldStep}
+use Rattle.stream.specs.Seek.{resume, skippedBy}
+use Rattle.history.specs.Calls.{chunkOf, Step, State, Turn, refused, settled, accept}
+use Rattle.history.specs.Calls.{refuse as refuseStep, portOf as keptPort}
+use Rattle.history.specs.Program.{soughtBy, heldOn, heldCall, heldStep}
 use Rattle.message.specs.Front.{front}
 use Rattle.message.specs.Whole.{refuse}
 use Rattle.page.specs.Page.{pageSize}
@@ -25,9 +25,9 @@ use Rattle.command.specs.Numbered.{carried}
 use Rattle.board.specs.declared.port.Port.{Port}
 use Rattle.board.specs.declared.board.Board.{Board}
 use Rattle.board.specs.Port.{heldBytes, portHolding, portOf, withPort}
-use Rattle.board.specs.Feed.{Feeding, PortStep, leftOf, unsound, feedNumber, refusedFeeding, stepOn, stepOf, feedOn, acceptOn, feedOf}
+use Rattle.board.specs.Feed.{Feeding, PortStep, leftOf, unsound, feedNumber, refusedFeeding, stepOn, stepBy, feedOn, acceptOn, callOf}
 use Rattle.board.specs.Handling.{Kept, handleOn, handleMessage, keptTests}
-use Rattle.board.specs.Runs.{Call, feedFrom, Told}
+use Rattle.board.specs.Runs.{Call, callFrom, Told}
 use Rattle.board.specs.Histories.{carriedAt, acceptedWith, acceptedBy}
 use Rattle.board.specs.Restarts.{carriedBy}
 use Rattle.board.proofs.Follows.{holding, found-visible}
@@ -46,7 +46,7 @@ count-is : (p : Port) → p ≡ portHolding (heldBytes p) → p .held ≡ length
 unfolding portHolding
 count-is p e = ap (λ (q : Port). q .held) e
 
--- What a feed gives, against a step of that program.
+-- What a call gives, against a step of that program.
 pub record Same (b : Board) (c : Call) (f : Feeding) (s : Step (State (List ℕ) Kept)) : Type 0 where
   pub told : Told c f (s .answer)
   pub state : s .state ≡ stateOf (f .answer .board) (f .page)
@@ -61,7 +61,7 @@ with-padded : (port : ℕ) (b : Board) (bs : List ℕ) (w : Settings) → Padded
 with-padded zero b bs w k = record { first = holding-padded bs; second = k .second }
 with-padded (suc p) b bs w k = record { first = k .first; second = holding-padded bs }
 
--- ---- an accepted feed, by where the seek ends
+-- ---- an accepted call, by where its scan ends
 
 -- A call with a room of 166 bytes or more.
 module _ (b : Board) (page : List ℕ) (c : Call) (k : Padded b) (large : replyRoom ≤ length (c .room)) where
@@ -69,7 +69,7 @@ module _ (b : Board) (page : List ℕ) (c : Call) (k : Padded b) (large : replyR
   held = heldBytes (portOf (c .port) b)
 
   abbrev turn : Sought → Turn (List ℕ) Kept
-  turn q = heldOn front handleMessage q (c .port) held (record { settings = b .settings; page = page }) (c .chunk)
+  turn q = heldOn front handleMessage q (c .port) held (record { settings = b .settings; page = page }) (chunkOf (c .input))
 
   -- The state after a turn is that of the board with the fed port anew.
   state-after : (port : ℕ) (t : Turn (List ℕ) Kept) → settled port (stateOf b page) t ≡ stateOf (withPort port b (portHolding (t .port)) (t .values .settings)) (t .values .page)
@@ -84,35 +84,36 @@ module _ (b : Board) (page : List ℕ) (c : Call) (k : Padded b) (large : replyR
         taken = i + n - length held;
         skipped = skippedBy i good;
         saved = a .answer .saved;
-        held = leftOf i n good held (c .chunk);
+        held = leftOf i n good held (chunkOf (c .input));
         settings = a .answer .settings;
         room = a .room;
         page = a .page;
       }
 
-  accepted : (q : Sought) → seek front (held ++ c .chunk) ≡ q
-      → Same b c (feedOn (stepOn (c .port) q held (b .settings) (c .chunk) (c .room) page) (c .port) b) (accept (c .port) (stateOf b page) (turn q))
+  accepted : (q : Sought) → soughtBy front (c .input) held ≡ q
+      → Same b c (feedOn (stepOn (c .port) q held (b .settings) (chunkOf (c .input)) (c .room) page) (c .port) b) (accept (c .port) (stateOf b page) (turn q))
   unfolding heldOn handleOn
   accepted (Starved i) e =
       record {
         told = record { number = refl; taken = refl; skipped = refl; saved = refl; room = refl };
         state = state-after (c .port) (turn (Starved i));
-        padded = with-padded (c .port) b (drop i (held ++ c .chunk)) (b .settings) k;
+        padded = with-padded (c .port) b (drop i (held ++ chunkOf (c .input))) (b .settings) k;
         accepted = refl;
       }
   accepted (Found i n good) e =
-      let visible : List ℕ = held ++ take (i + n - length held) (c .chunk) in
-      let same : receivedOf good (drop i (held ++ c .chunk)) ≡ receivedOf good (take n (drop i visible)) = found-visible held (c .chunk) i n good e in
+      let chunk : List ℕ = chunkOf (c .input) in
+      let visible : List ℕ = held ++ take (i + n - length held) chunk in
+      let same : receivedOf good (drop i (held ++ chunk)) ≡ receivedOf good (take n (drop i visible)) = found-visible held (c .input) i n good e in
       let answer = ap (λ (m : Received). answering (c .port) m (b .settings) (c .room) page) same ∙ answer-large (c .port) (receivedOf good (take n (drop i visible))) (b .settings) (c .room) page large in
       subst (λ (a : Answering). Same b c (feedOn (foundStep i n good a) (c .port) b) (accept (c .port) (stateOf b page) (turn (Found i n good)))) (sym answer)
       (record {
         told = record { number = refl; taken = refl; skipped = refl; saved = refl; room = refl };
         state = state-after (c .port) (turn (Found i n good));
         padded = with-padded (c .port) b (drop (resume i n good) visible) _ k;
-        accepted = ap (acceptedWith (turn (Found i n good) .answer .saved)) (ap (λ (q : Sought). carriedAt q (held ++ c .chunk)) e ∙ ap carried same);
+        accepted = ap (acceptedWith (turn (Found i n good) .answer .saved)) (ap (λ (q : Sought). carriedAt q (held ++ chunk)) e ∙ ap carried same);
       })
 
--- ---- any feed
+-- ---- any call
 
 -- That program's step, where its five tests come out so.
 abbrev stepWith : Bool → Bool → Bool → Bool → Bool → Board → List ℕ → Call → Step (State (List ℕ) Kept)
@@ -123,7 +124,7 @@ stepWith a u r d e b page c =
     (refuseStep r 18 s
     (refuseStep d 19 s
     (refuseStep e 20 s
-    (accept (c .port) s (heldFeed front handleMessage (c .port) (heldBytes (portOf (c .port) b)) (record { settings = b .settings; page = page }) (c .chunk)))))))
+    (accept (c .port) s (heldCall front handleMessage (c .port) (heldBytes (portOf (c .port) b)) (record { settings = b .settings; page = page }) (c .input)))))))
 
 port-held : (port : ℕ) (b : Board) (page : List ℕ) → keptPort port (stateOf b page) ≡ heldBytes (portOf port b)
 port-held zero b page = refl
@@ -134,15 +135,15 @@ module _ (b : Board) (page : List ℕ) (c : Call) (k : Padded b) where
   refused-same n = record { told = record { number = refl; taken = refl; skipped = refl; saved = refl; room = refl }; state = refl; padded = k; accepted = refl }
 
   on-tests : (a u r d e : Bool) → ltb (length (c .room)) replyRoom ≡ r
-      → Same b c (acceptOn (refuse a 16 (refuse u 17 (refuse r 18 (refuse d 19 (refuse e 20 0))))) (c .port) b (c .chunk) (c .room) page) (stepWith a u r d e b page c)
-  unfolding heldFeed stepOf
+      → Same b c (acceptOn (refuse a 16 (refuse u 17 (refuse r 18 (refuse d 19 (refuse e 20 0))))) (c .port) b (c .input) (c .room) page) (stepWith a u r d e b page c)
+  unfolding heldCall stepBy
   on-tests true u r d e h = refused-same 16
   on-tests false true r d e h = refused-same 17
   on-tests false false true d e h = refused-same 18
   on-tests false false false true e h = refused-same 19
   on-tests false false false false true h = refused-same 20
   on-tests false false false false false h =
-      accepted b page c k (ltb-false (length (c .room)) replyRoom h) (seek front (heldBytes (portOf (c .port) b) ++ c .chunk)) refl
+      accepted b page c k (ltb-false (length (c .room)) replyRoom h) (soughtBy front (c .input) (heldBytes (portOf (c .port) b))) refl
 
   unsound-is : unsound (b .first .held) (b .second .held) (b .settings) ≡ ltb 260 (length (heldBytes (b .first))) || ltb 260 (length (heldBytes (b .second))) || not (settingsUsable (b .settings))
   unfolding unsound
@@ -150,9 +151,9 @@ module _ (b : Board) (page : List ℕ) (c : Call) (k : Padded b) where
       ap (λ (i : ℕ). ltb 260 i || ltb 260 (b .second .held) || not (settingsUsable (b .settings))) (count-is (b .first) (k .first))
       ∙ ap (λ (i : ℕ). ltb 260 (length (heldBytes (b .first))) || ltb 260 i || not (settingsUsable (b .settings))) (count-is (b .second) (k .second))
 
-  -- A feed of the board gives what that program's step gives.
-  pub step-same : Same b c (feedOf (c .port) b (c .chunk) (c .room) page) (heldStep front handleMessage 260 replyRoom keptTests (stateOf b page) (feedFrom c))
-  unfolding feedOf feedNumber pageNumber heldStep keptTests
+  -- A call of the board gives what that program's step gives.
+  pub step-same : Same b c (callOf (c .port) b (c .input) (c .room) page) (heldStep front handleMessage 260 replyRoom keptTests (stateOf b page) (callFrom c))
+  unfolding callOf feedNumber pageNumber heldStep keptTests
   step-same =
       rw (unsound-is, port-held (c .port) b page)
       (on-tests (ltb 1 (c .port)) (ltb 260 (length (heldBytes (b .first))) || ltb 260 (length (heldBytes (b .second))) || not (settingsUsable (b .settings)))

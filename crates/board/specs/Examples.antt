@@ -6,6 +6,7 @@ use mathlib.Core.Path.{_≡_}
 use Prim.Native.Nat.{ℕ, _-_}
 use lib.ListN.{length, take, replicate}
 use Rattle.word.specs.Word.{wordBytes}
+use Rattle.history.specs.Calls.{Input, fed}
 use Rattle.history.specs.Restarts.{Act, call, restart}
 use Rattle.message.specs.Message.{messageOf}
 use Rattle.page.specs.Page.{filled, blankPage}
@@ -16,13 +17,13 @@ use Rattle.board.specs.Runs.{Call, Calls}
 use Rattle.board.specs.Histories.{actsOn, acceptedOn}
 use Rattle.board.specs.Samples.{Out, done, saves, outOf}
 
--- A feed: the port, the chunk, and what it gives.
+-- A call: the port, the chunk or a silence, and what it gives.
 pub record Sent : Type 0 where
   pub port : ℕ
-  pub chunk : List ℕ
+  pub input : Input
   pub out : Out
 
--- A line: the page at the beginning; feeds and restarts; the numbers accepted; the settings and the page at the end.
+-- A line: the page at the beginning; calls and restarts; the numbers accepted; the settings and the page at the end.
 pub record Line : Type 0 where
   pub page : List ℕ
   pub acts : List (Act Sent)
@@ -34,21 +35,21 @@ pub record Line : Type 0 where
 
 -- A message that is taken whole and answered: without the mark of a save, or with it.
 abbrev pub plain : ℕ → List ℕ → List ℕ → Act Sent
-plain port m reply = call (record { port = port; chunk = m; out = done (length m) 0 reply })
+plain port m reply = call (record { port = port; input = fed m; out = done (length m) 0 reply })
 
 abbrev pub marks : ℕ → List ℕ → List ℕ → Act Sent
-marks port m reply = call (record { port = port; chunk = m; out = saves (length m) reply })
+marks port m reply = call (record { port = port; input = fed m; out = saves (length m) reply })
 
 -- Type 7C: a number, then a command's type and its fields.
 abbrev pub numbered : ℕ → ℕ → List ℕ → List ℕ
 numbered n kind fields = messageOf 0x7C (wordBytes n ++ (kind ∷ fields))
 
 -- With a wrong last byte.
-abbrev spoiled : List ℕ → List ℕ
+abbrev pub spoiled : List ℕ → List ℕ
 spoiled m = take (length m - 1) m ++ (0x00 ∷ [])
 
 -- Fields: Ping; of a setting function 1 with a value of one byte; and a function without a value.
-abbrev ping : List ℕ
+abbrev pub ping : List ℕ
 ping = 0x02 ∷ 0x00 ∷ []
 
 abbrev pub sets : ℕ → ℕ → List ℕ
@@ -67,7 +68,7 @@ rowWith code value = row code 0 ++ (code ∷ 0x01 ∷ value ∷ [])
 -- ---- pages and settings
 
 -- A page with a number alone.
-abbrev numberPage : ℕ → List ℕ
+abbrev pub numberPage : ℕ → List ℕ
 numberPage n = filled (0x01 ∷ 0x70 ∷ 0x04 ∷ 0x04 ∷ wordBytes n)
 
 -- A page with accelerometer range 04 and the number 7.
@@ -168,11 +169,11 @@ examples =
     ∷ record {
       page = blankPage;
       acts =
-          call (record { port = 0; chunk = spoiled (numbered 0x09000005 0x01 ping); out = done 13 1 (messageOf 0x7C (row 0x09 1)) })
+          call (record { port = 0; input = fed (spoiled (numbered 0x09000005 0x01 ping)); out = done 13 1 (messageOf 0x7C (row 0x09 1)) })
           ∷ call
           (record {
             port = 0;
-            chunk = numbered 0x09000005 0x01 ping;
+            input = fed (numbered 0x09000005 0x01 ping);
             out = record { number = 0; taken = 13; skipped = 12; saved = true; reply = messageOf 0x7C (row 0x02 0) };
           })
           ∷ [];
@@ -184,15 +185,15 @@ examples =
 
 -- ---- what the rules give
 
-abbrev actsFor : List (Act Sent) → List (Act Call)
+abbrev pub actsFor : List (Act Sent) → List (Act Call)
 actsFor [] = []
-actsFor (call s ∷ acts) = call (record { port = s .port; chunk = s .chunk; room = replicate 166 0 }) ∷ actsFor acts
+actsFor (call s ∷ acts) = call (record { port = s .port; input = s .input; room = replicate 166 0 }) ∷ actsFor acts
 actsFor (restart ∷ acts) = restart ∷ actsFor acts
 
 abbrev given : List (Act Sent) → List Feeding → List (Act Sent)
 given [] fs = []
 given (call s ∷ acts) [] = []
-given (call s ∷ acts) (f ∷ fs) = call (record { port = s .port; chunk = s .chunk; out = outOf f }) ∷ given acts fs
+given (call s ∷ acts) (f ∷ fs) = call (record { port = s .port; input = s .input; out = outOf f }) ∷ given acts fs
 given (restart ∷ acts) fs = restart ∷ given acts fs
 
 abbrev lineFor : List ℕ → List (Act Sent) → Line
@@ -210,6 +211,6 @@ abbrev pub linesFor : List Line → List Line
 linesFor [] = []
 linesFor (l ∷ ls) = lineFor (l .page) (l .acts) ∷ linesFor ls
 
--- The rules give for each line's page and feeds what the line says. Proof: Sampled `example-lines`.
+-- The rules give for each line's page and calls what the line says. Proof: Sampled `example-lines`.
 abbrev pub ExampleLines : Type 0
 ExampleLines = linesFor examples ≡ examples

@@ -1,12 +1,15 @@
--- Document 01, "The scan" and "Numbers of the calls": a feed.
+-- Document 01, "The scan" and "Numbers of the calls", and request 06: a feed and a silence.
 use Prim.Native.Nat.{ℕ, zero, suc, _+_, _-_}
-use mathlib.Core.Bool.{Bool, false, _||_, not}
+use mathlib.Core.Bool.{Bool, true, false, _||_, not}
 use mathlib.Core.List.{List, _++_}
-use lib.Dec.{eqb, ltb}
+use lib.Dec.{ltb}
 use lib.ListN.{length, take, drop}
 use Rattle.stream.specs.declared.Sought.{Sought}
 use Rattle.stream.specs.declared.Sought.the-variants.{Starved, Found}
 use Rattle.stream.specs.Seek.{seek, resume, skippedBy}
+use Rattle.stream.specs.Silence.{endOf, upTo}
+use Rattle.history.specs.Calls.{Input, fed, silent, chunkOf}
+use Rattle.history.specs.Program.{soughtBy}
 use Rattle.message.specs.Front.{front}
 use Rattle.message.specs.Whole.{refuse}
 use Rattle.page.specs.Sound.{pageNumber}
@@ -16,10 +19,9 @@ use Rattle.command.specs.Answer.{replyRoom, Answering, answering}
 use Rattle.command.specs.Effects.{settingsUsable}
 use Rattle.board.specs.declared.board.Board.{Board}
 use Rattle.board.specs.declared.board.Fed.{Fed}
-use Rattle.board.specs.declared.feeding.Stepped.{Stepped}
-use Rattle.board.specs.Port.{portRoom, heldBytes, padded, portHolding, portOf, withPort}
+use Rattle.board.specs.Port.{portRoom, heldBytes, portHolding, portOf, withPort}
 
--- What a feed answers, and the reply room and the page afterwards.
+-- What a call answers, and the reply room and the page afterwards.
 pub record Feeding : Type 0 where
   pub answer : Fed
   pub room : List ℕ
@@ -40,9 +42,14 @@ feedNumber port first second w room page =
 abbrev pub refusedFeeding : ℕ → Board → List ℕ → List ℕ → Feeding
 refusedFeeding n b room page = record { answer = record { number = n; taken = 0; skipped = 0; saved = false; board = b }; room = room; page = page }
 
--- ---- an accepted feed
+-- ---- an accepted call
 
--- What a feed does to its port's held bytes, the settings, the room and the page.
+-- What the code is given: has the line gone quiet? Then the chunk is not looked at.
+abbrev pub inputOf : Bool → List ℕ → Input
+inputOf true chunk = silent
+inputOf false chunk = fed chunk
+
+-- What a call does to its port's held bytes, the settings, the room and the page.
 pub record PortStep : Type 0 where
   pub number : ℕ
   pub taken : ℕ
@@ -86,9 +93,13 @@ stepOn port (Starved k) held w chunk room page =
       page = page;
     }
 
--- An accepted feed of a port that holds some bytes.
-unfoldable pub stepOf : ℕ → List ℕ → Settings → List ℕ → List ℕ → List ℕ → PortStep
-stepOf port held w chunk room page = stepOn port (seek front (held ++ chunk)) held w chunk room page
+-- An accepted call of a port that holds some bytes: a feed seeks through them and the chunk; a silence goes on over them alone.
+unfoldable pub stepBy : ℕ → List ℕ → Settings → Input → List ℕ → List ℕ → PortStep
+stepBy port held w i room page = stepOn port (soughtBy front i held) held w (chunkOf i) room page
+
+-- The same as the code makes it: a mark ends the bytes (`quiet`) or none does.
+abbrev pub stepAt : ℕ → Bool → List ℕ → Settings → List ℕ → List ℕ → List ℕ → PortStep
+stepAt port quiet held w chunk room page = stepOn port (seek (upTo (endOf quiet) front) (held ++ chunk)) held w chunk room page
 
 -- The board after it.
 abbrev pub feedOn : PortStep → ℕ → Board → Feeding
@@ -105,58 +116,16 @@ feedOn s port b =
       page = s .page;
     }
 
-abbrev pub acceptOn : ℕ → ℕ → Board → List ℕ → List ℕ → List ℕ → Feeding
-acceptOn zero port b chunk room page = feedOn (stepOf port (heldBytes (portOf port b)) (b .settings) chunk room page) port b
-acceptOn (suc n) port b chunk room page = refusedFeeding (suc n) b room page
+abbrev pub acceptOn : ℕ → ℕ → Board → Input → List ℕ → List ℕ → Feeding
+acceptOn zero port b i room page = feedOn (stepBy port (heldBytes (portOf port b)) (b .settings) i room page) port b
+acceptOn (suc n) port b i room page = refusedFeeding (suc n) b room page
 
--- A feed: the tests, then the named port.
-unfoldable pub feedOf : ℕ → Board → List ℕ → List ℕ → List ℕ → Feeding
-feedOf port b chunk room page = acceptOn (feedNumber port (b .first .held) (b .second .held) (b .settings) room page) port b chunk room page
+-- A call: the tests, then the named port. "Refusals: 16 to 20 as for a feed": the tests do not ask which call it is.
+unfoldable pub callOf : ℕ → Board → Input → List ℕ → List ℕ → Feeding
+callOf port b i room page = acceptOn (feedNumber port (b .first .held) (b .second .held) (b .settings) room page) port b i room page
 
--- ---- a step in place, as the code makes it
+abbrev pub feedOf : ℕ → Board → List ℕ → List ℕ → List ℕ → Feeding
+feedOf port b chunk room page = callOf port b (fed chunk) room page
 
--- What a step answers, and the port's array, the room and the page afterwards.
-pub record Stepping : Type 0 where
-  pub step : Stepped
-  pub bytes : List ℕ
-  pub room : List ℕ
-  pub page : List ℕ
-
-abbrev pub inPlace : PortStep → Stepping
-inPlace s =
-    record {
-      step = record { number = s .number; taken = s .taken; skipped = s .skipped; saved = s .saved; held = length (s .held); settings = s .settings };
-      bytes = padded (s .held);
-      room = s .room;
-      page = s .page;
-    }
-
--- ---- a feed in place, for a caller that keeps the board: the named port's array is lent, the rest goes by value
-
--- The held count of the named port.
-abbrev pub namedHeld : ℕ → ℕ → ℕ → ℕ
-namedHeld zero first second = first
-namedHeld (suc p) first second = second
-
--- A refusal gives the held count and the settings back as they came.
-abbrev pub refusedStepping : ℕ → ℕ → Settings → List ℕ → List ℕ → List ℕ → Stepping
-refusedStepping n held w bytes room page =
-    record {
-      step = record { number = n; taken = 0; skipped = 0; saved = false; held = held; settings = w };
-      bytes = bytes;
-      room = room;
-      page = page;
-    }
-
--- The numbers of a feed; an array that is not 260 bytes is that of no sound board, so it is 17 too.
-unfoldable pub placeNumber : ℕ → List ℕ → ℕ → ℕ → Settings → List ℕ → List ℕ → ℕ
-placeNumber port bytes first second w room page =
-    refuse (ltb 1 port) 16 (refuse (not (eqb (length bytes) portRoom)) 17 (feedNumber port first second w room page))
-
-abbrev pub placeOn : ℕ → ℕ → List ℕ → ℕ → Settings → List ℕ → List ℕ → List ℕ → Stepping
-placeOn zero port bytes held w chunk room page = inPlace (stepOf port (take held bytes) w chunk room page)
-placeOn (suc n) port bytes held w chunk room page = refusedStepping (suc n) held w bytes room page
-
-unfoldable pub placeOf : ℕ → List ℕ → ℕ → ℕ → Settings → List ℕ → List ℕ → List ℕ → Stepping
-placeOf port bytes first second w chunk room page =
-    placeOn (placeNumber port bytes first second w room page) port bytes (namedHeld port first second) w chunk room page
+abbrev pub silenceOf : ℕ → Board → List ℕ → List ℕ → Feeding
+silenceOf port b room page = callOf port b silent room page

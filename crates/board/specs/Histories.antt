@@ -1,5 +1,6 @@
--- Request 03: histories of feeds and restarts of the board over one page, which is not erased and which nobody else writes; the numbers
--- accepted in them; and what is sent again. Each statement names its proof, a term of that type in a file of proofs/.
+-- Request 03: histories of calls (feeds, and silences drained or not) and restarts of the board over one page, which is not erased and
+-- which nobody else writes; the numbers accepted in them; and what is sent again. Each statement names its proof, a term of that type in a
+-- file of proofs/.
 use mathlib.Core.Bool.{Bool, true, false, _&&_}
 use mathlib.Core.List.{List, [], _∷_, _++_}
 use mathlib.Core.Option.{Option, none, some}
@@ -9,7 +10,8 @@ use lib.Dec.{eqb}
 use lib.ListN.{length, drop, getD}
 use Rattle.stream.specs.declared.Sought.{Sought}
 use Rattle.stream.specs.declared.Sought.the-variants.{Starved, Found}
-use Rattle.stream.specs.Seek.{seek}
+use Rattle.history.specs.Calls.{chunkOf}
+use Rattle.history.specs.Program.{soughtBy}
 use Rattle.history.specs.Restarts.{Act, call, restart, calls}
 use Rattle.history.specs.Numbers.{Growing, NoneTwice}
 use Rattle.message.specs.Front.{front}
@@ -22,7 +24,7 @@ use Rattle.command.specs.Answer.{numberOn}
 use Rattle.board.specs.declared.board.Board.{Board}
 use Rattle.board.specs.Port.{heldBytes, portOf}
 use Rattle.board.specs.Start.{startOf}
-use Rattle.board.specs.Feed.{Feeding, feedOf}
+use Rattle.board.specs.Feed.{Feeding, callOf}
 use Rattle.board.specs.Runs.{Call, Calls, callsFrom}
 use Rattle.board.specs.Theorems.{callsThen}
 
@@ -30,10 +32,10 @@ use Rattle.board.specs.Theorems.{callsThen}
 
 -- What a call gives, on a board and a page.
 abbrev pub feedingOf : Board → List ℕ → Call → Feeding
-feedingOf b page c = feedOf (c .port) b (c .chunk) (c .room) page
+feedingOf b page c = callOf (c .port) b (c .input) (c .room) page
 
--- Each feed is given the board and the page that the last act left; a restart starts a new board on the page as it stands. That page is
--- the one that the last feed left: a feed whose page was not stored before the power cut is outside the history.
+-- Each call is given the board and the page that the last act left; a restart starts a new board on the page as it stands. That page is
+-- the one that the last call left: a call whose page was not stored before the power cut is outside the history.
 unfoldable pub actsFrom : Board → List ℕ → List (Act Call) → Calls
 actsFrom b page [] = record { feedings = []; board = b; page = page }
 actsFrom b page (call c ∷ acts) =
@@ -46,7 +48,7 @@ actsFrom b page (restart ∷ acts) = actsFrom (startOf page .board) page acts
 abbrev pub actsOn : List ℕ → List (Act Call) → Calls
 actsOn page acts = actsFrom (startOf page .board) page acts
 
--- Without a restart it is a list of feeds. Proof: Histories `no-restart`.
+-- Without a restart it is a list of calls. Proof: Histories `no-restart`.
 abbrev pub NoRestart : Type 0
 NoRestart = (b : Board) (page : List ℕ) (cs : List Call) → actsFrom b page (calls cs) ≡ callsFrom b page cs
 
@@ -65,18 +67,19 @@ abbrev pub carriedAt : Sought → List ℕ → Option ℕ
 carriedAt (Found k n good) bytes = carried (receivedOf good (drop k bytes))
 carriedAt (Starved k) bytes = none
 
--- The number that a feed's message carries, where it finds one that does: in the bytes held and then the chunk.
+-- The number that a call's message carries, where it finds one that does: a feed in the bytes held and then the chunk, a silence in the
+-- bytes held.
 abbrev pub numberFound : Board → Call → Option ℕ
 numberFound b c =
-    let bytes : List ℕ = heldBytes (portOf (c .port) b) ++ c .chunk in
-    carriedAt (seek front bytes) bytes
+    let held : List ℕ = heldBytes (portOf (c .port) b) in
+    carriedAt (soughtBy front (c .input) held) (held ++ chunkOf (c .input))
 
 abbrev pub acceptedWith : Bool → Option ℕ → List ℕ
 acceptedWith true (some n) = n ∷ []
 acceptedWith true none = []
 acceptedWith false carries = []
 
--- "A fresh number sets the feed's mark of a save": a feed accepts the number of its message where it sets the mark, and nowhere else.
+-- "A fresh number sets the feed's mark of a save": a call accepts the number of its message where it sets the mark, and nowhere else.
 abbrev pub acceptedBy : Board → Call → Feeding → List ℕ
 acceptedBy b c f = acceptedWith (f .answer .saved) (numberFound b c)
 
@@ -91,7 +94,7 @@ acceptedFrom b page (restart ∷ acts) = acceptedFrom (startOf page .board) page
 abbrev pub acceptedOn : List ℕ → List (Act Call) → List ℕ
 acceptedOn page acts = acceptedFrom (startOf page .board) page acts
 
--- One feed of any board, on any page, whose message carries a number: where it is answered, the mark is set if and only if the number
+-- One call of any board, on any page, whose message carries a number: where it is answered, the mark is set if and only if the number
 -- is fresh on that page; and without the mark the settings and the page are as they were. Proof: Histories `marks-fresh`.
 pub record MarkIsFresh (b : Board) (page : List ℕ) (c : Call) (n : ℕ) : Type 0 where
   pub answered : feedingOf b page c .answer .number ≡ 0 → feedingOf b page c .answer .saved ≡ isFresh (numberOn page) n
@@ -117,14 +120,15 @@ pub record AcceptedOnce (page : List ℕ) (acts : List (Act Call)) : Type 0 wher
   -- At the end the page keeps the last of them, or what it kept at the beginning where there is none.
   pub kept-last : numberOn (actsOn page acts .page) ≡ lastAfter (numberOn page) (acceptedOn page acts)
 
--- "No number is accepted twice in any history of feeds and restarts over one page that begins blank or sound": any ports, chunks and
--- rooms, refused feeds too. (Every page: on one that is neither, all feeds are refused.) Proof: Histories `no-number-twice`.
+-- "No number is accepted twice in any history of feeds and restarts over one page that begins blank or sound"; "histories take in silences,
+-- drained or not": any ports, chunks and rooms, refused calls too. (Every page: on one that is neither, all calls are refused.) Proof:
+-- Histories `no-number-twice`.
 abbrev pub NoNumberTwice : Type 0
 NoNumberTwice = (page : List ℕ) (acts : List (Act Call)) → AcceptedOnce page acts
 
 -- ---- what is sent again
 
--- Every feed names port 0.
+-- Every call names port 0.
 abbrev pub onPortZero : List (Act Call) → Bool
 onPortZero [] = true
 onPortZero (call c ∷ acts) = eqb (c .port) 0 && onPortZero acts
@@ -135,7 +139,7 @@ pub record NothingChanged (page : List ℕ) (acts : List (Act Call)) : Type 0 wh
   -- The working values are those that a start on the page sets.
   pub settings-same : actsOn page acts .board .settings ≡ startOf page .board .settings
 
--- Yesterday's commands, sent again, change nothing: where the page keeps a number, no history whose feeds all name port 0 and accept no
+-- Yesterday's commands, sent again, change nothing: where the page keeps a number, no history whose calls all name port 0 and accept no
 -- number changes the page or a working value, whatever their chunks and rooms. (Every number accepted is larger than the one kept, by
 -- `NoNumberTwice`; so none that was accepted before is.) Proof: Histories `replay-changes-nothing`.
 abbrev pub ReplayChangesNothing : Type 0

@@ -1,5 +1,5 @@
 -- What is proved of the calls in place, for a caller that keeps the board: put back, their answers are those of the calls by value. Proofs:
--- proofs/InPlace `in-place-is-feed`, `in-place-is-start`.
+-- proofs/InPlace `in-place-is-call`, `in-place-is-start`.
 use mathlib.Core.List.{List}
 use mathlib.Core.Path.{_≡_}
 use Prim.Native.Nat.{ℕ}
@@ -8,9 +8,11 @@ use Rattle.board.specs.declared.board.Board.{Board}
 use Rattle.board.specs.declared.board.Started.{Started}
 use Rattle.board.specs.Port.{portRoom, portOf, withPort}
 use Rattle.board.specs.Start.{StartingInPlace, startOf, startPlaceOf}
-use Rattle.board.specs.Feed.{Feeding, Stepping, feedOf, placeOf}
+use Rattle.history.specs.Calls.{Input}
+use Rattle.board.specs.Feed.{Feeding, callOf}
+use Rattle.board.specs.Place.{Stepping, placeBy}
 
--- ---- a feed in place
+-- ---- a feed and a silence in place
 
 -- What a caller does who keeps the board: it puts the held count and the settings back; the array was written in place.
 abbrev pub putBack : ℕ → Board → Stepping → Feeding
@@ -27,11 +29,11 @@ putBack port b t =
       page = t .page;
     }
 
--- Then a feed in place is a feed of the board, refused or not.
-abbrev pub InPlaceIsFeed : Type 0
-InPlaceIsFeed =
-    (port : ℕ) (b : Board) (chunk room page : List ℕ) → length (portOf port b .bytes) ≡ portRoom
-    → putBack port b (placeOf port (portOf port b .bytes) (b .first .held) (b .second .held) (b .settings) chunk room page) ≡ feedOf port b chunk room page
+-- Then a call in place is a call of the board, refused or not.
+abbrev pub InPlaceIsCall : Type 0
+InPlaceIsCall =
+    (port : ℕ) (b : Board) (i : Input) (room page : List ℕ) → length (portOf port b .bytes) ≡ portRoom
+    → putBack port b (placeBy port (portOf port b .bytes) (b .first .held) (b .second .held) (b .settings) i room page) ≡ callOf port b i room page
 
 -- ---- a start in place
 

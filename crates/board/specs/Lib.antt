@@ -6,7 +6,9 @@ pub mod Handling
 pub mod Histories
 pub mod InPlace
 pub mod Older
+pub mod Place
 pub mod Port
+pub mod Quiet
 pub mod Restarts
 pub mod Runs
 pub mod Samples

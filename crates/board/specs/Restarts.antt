@@ -1,26 +1,27 @@
--- Demand 3 over the histories of feeds and restarts (Histories): the plain reckoning of them, where a restart takes the working values
--- anew from the page's values. Each statement names its proof, a term of that type in a file of proofs/.
+-- Demand 3 over the histories of calls and restarts (Histories) whose silences are drained: the plain reckoning of them, where a restart
+-- takes the working values anew from the page's values. Each statement names its proof, a term of that type in a file of proofs/.
 use mathlib.Core.Bool.{true}
 use mathlib.Core.List.{List, [], _∷_, _++_}
 use mathlib.Core.Option.{Option, none}
 use mathlib.Core.Path.{_≡_}
 use Prim.Native.Nat.{ℕ}
 use Rattle.stream.specs.Scan.{Message}
-use Rattle.history.specs.Feeds.{Answer, Run, State}
-use Rattle.history.specs.Feeds.{Feed as FeedOf}
+use Rattle.history.specs.Calls.{Answer, Run, State}
+use Rattle.history.specs.Calls.{Call as CallOf}
 use Rattle.history.specs.Reckoning.{Ledger}
-use Rattle.history.specs.Restarts.{Act, call, restart, reckonedHistory}
+use Rattle.history.specs.Restarts.{Act, call, restart, reckonedHistory, drainedHistory, onlyFedActs}
 use Rattle.message.specs.Front.{front}
 use Rattle.page.specs.declared.setting.Values.{Values}
 use Rattle.page.specs.Page.{allStorable, writing}
+use Rattle.page.specs.Lookup.{valuesIn}
 use Rattle.page.specs.Sound.{pageNumber}
 use Rattle.command.specs.Numbered.{carried}
 use Rattle.command.specs.Outcome.{receivedOf}
 use Rattle.command.specs.Answer.{replyRoom}
 use Rattle.board.specs.Start.{startOf}
 use Rattle.board.specs.Handling.{Reckoned, settingsOf, reckonMessage}
-use Rattle.board.specs.Runs.{Call, feedFrom}
-use Rattle.board.specs.Theorems.{AsReckoned}
+use Rattle.board.specs.Runs.{Call, callFrom}
+use Rattle.board.specs.Theorems.{answersOf, AsReckoned}
 use Rattle.board.specs.Histories.{actsOn, acceptedWith, acceptedOn}
 
 abbrev pub callsIn : List (Act Call) → List Call
@@ -28,18 +29,18 @@ callsIn [] = []
 callsIn (call c ∷ acts) = c ∷ callsIn acts
 callsIn (restart ∷ acts) = callsIn acts
 
--- What the reckoning is given: each feed's port, chunk and length of room, and the restarts.
-abbrev pub feedActs : List (Act Call) → List (Act FeedOf)
-feedActs [] = []
-feedActs (call c ∷ acts) = call (feedFrom c) ∷ feedActs acts
-feedActs (restart ∷ acts) = restart ∷ feedActs acts
+-- What the reckoning is given: each call's port, chunk and length of room, the silences and the restarts.
+abbrev pub toldActs : List (Act Call) → List (Act CallOf)
+toldActs [] = []
+toldActs (call c ∷ acts) = call (callFrom c) ∷ toldActs acts
+toldActs (restart ∷ acts) = restart ∷ toldActs acts
 
 -- A start sets the working values anew, from the page's values that are kept.
 abbrev pub startAnew : Reckoned → Reckoned
 startAnew x = record { settings = settingsOf (x .page); page = x .page }
 
 abbrev pub reckonedActs : Values → List (Act Call) → Run (State Ledger Reckoned)
-reckonedActs v acts = reckonedHistory front reckonMessage replyRoom startAnew (record { settings = settingsOf v; page = v }) (feedActs acts)
+reckonedActs v acts = reckonedHistory front reckonMessage replyRoom startAnew (record { settings = settingsOf v; page = v }) (toldActs acts)
 
 -- The numbers accepted by the reckoning's answers, which name the message that each call reported.
 abbrev pub carriedBy : List Message → Option ℕ
@@ -61,7 +62,20 @@ pub record HistoryFromPage (page : List ℕ) (acts : List (Act Call)) : Type 0 w
   pub started : startOf (actsOn page acts .page) .number ≡ 0
   pub accepted : acceptedOn page acts ≡ acceptedIn (reckonedActs values acts .answers)
 
--- Demand 3 over histories: from a start on every blank or sound page, for every list of feeds and restarts. Proof: Restarts
+-- Demand 3 over histories: from a start on every blank or sound page, for every list of calls and restarts in which each accepted silence
+-- is drained to answer 1 before a feed of that port is accepted again, by the numbers that the calls answered. Proof: Restarts
 -- `history-demand3`.
 abbrev pub HistoryDemand3 : Type 0
-HistoryDemand3 = (page : List ℕ) (acts : List (Act Call)) → pageNumber page ≡ 0 → HistoryFromPage page acts
+HistoryDemand3 =
+    (page : List ℕ) (acts : List (Act Call)) → pageNumber page ≡ 0 → drainedHistory (toldActs acts) (answersOf (actsOn page acts .feedings)) ≡ true
+    → HistoryFromPage page acts
+
+-- As it was before there were silences: every history of feeds and restarts. Proof: Restarts `history-feeds-demand3`.
+abbrev pub HistoryFeedsDemand3 : Type 0
+HistoryFeedsDemand3 = (page : List ℕ) (acts : List (Act Call)) → pageNumber page ≡ 0 → onlyFedActs (toldActs acts) ≡ true → HistoryFromPage page acts
+
+-- Whether a history is drained, the reckoning's answers tell as the calls' own do. Proof: Restarts `history-drained-alike`.
+abbrev pub HistoryDrainedAlike : Type 0
+HistoryDrainedAlike =
+    (page : List ℕ) (acts : List (Act Call)) → pageNumber page ≡ 0
+    → drainedHistory (toldActs acts) (answersOf (actsOn page acts .feedings)) ≡ drainedHistory (toldActs acts) (reckonedActs (valuesIn page) acts .answers)

@@ -5,6 +5,7 @@ use mathlib.Core.List.{List, [], _∷_, _++_}
 use mathlib.Core.Path.{_≡_}
 use Prim.Native.Nat.{ℕ, zero, suc, _+_}
 use lib.ListN.{length, take, replicate}
+use Rattle.history.specs.Calls.{fed}
 use Rattle.message.specs.Message.{lengthOf, messageOf}
 use Rattle.page.specs.Page.{noValues, blankPage}
 use Rattle.board.specs.Port.{heldBytes}
@@ -34,7 +35,7 @@ done taken skipped reply = record { number = 0; taken = taken; skipped = skipped
 abbrev pub saves : ℕ → List ℕ → Out
 saves taken reply = record { number = 0; taken = taken; skipped = 0; saved = true; reply = reply }
 
-abbrev ends : ℕ → ℕ → Out
+abbrev pub ends : ℕ → ℕ → Out
 ends taken skipped = record { number = 1; taken = taken; skipped = skipped; saved = false; reply = [] }
 
 -- A line of one feed that takes its chunk whole and leaves nothing held and the page blank.
@@ -106,7 +107,7 @@ samples =
 
 abbrev callsWith : List (List ℕ) → List Call
 callsWith [] = []
-callsWith (c ∷ cs) = record { port = 0; chunk = c; room = replicate 166 0 } ∷ callsWith cs
+callsWith (c ∷ cs) = record { port = 0; input = fed c; room = replicate 166 0 } ∷ callsWith cs
 
 -- The reply stands at the room's front.
 abbrev replyIn : ℕ → List ℕ → List ℕ
@@ -123,7 +124,7 @@ outOf f =
       reply = replyIn (f .answer .number) (f .room);
     }
 
-abbrev outsOf : List Feeding → List Out
+abbrev pub outsOf : List Feeding → List Out
 outsOf [] = []
 outsOf (f ∷ fs) = outOf f ∷ outsOf fs
 

@@ -1,18 +1,17 @@
-// A feed.
+// The tests of a call, and one accepted call of a port, a feed or a silence: `quiet` says that the line has gone quiet, and then no
+// byte is waited for.
 ghost use mathlib.Core.Path.{_≡_};
 ghost use mathlib.Core.Bool.{false};
 ghost use mathlib.Core.List.{_++_};
 ghost use lib.ListN.{length, take, drop};
 ghost use Prim.Native.Nat.{_+_, _-_, _≤_, _<_};
-ghost use Rattle.stream.specs.declared.Sought.the-variants.{Starved, Found};
-ghost use Rattle.stream.specs.Seek.{seek, resume, skippedBy};
-ghost use Rattle.message.specs.Front.{front};
+ghost use Rattle.stream.specs.declared.Sought.the-variants.{Found};
+ghost use Rattle.stream.specs.Seek.{resume, skippedBy};
 ghost use Rattle.command.specs.Outcome.{receivedOf};
 ghost use Rattle.command.specs.Answer.{answering};
-ghost use Rattle.board.specs.Port.{heldBytes, padded};
-ghost use Rattle.board.specs.Feed.{feedNumber, leftOf, stepOf, inPlace, feedOn, feedOf, namedHeld, placeNumber, placeOf};
-use crate::board::Board;
-use crate::board::Fed;
+ghost use Rattle.board.specs.Port.{padded};
+ghost use Rattle.board.specs.Feed.{feedNumber, leftOf, stepOn, stepAt};
+ghost use Rattle.board.specs.Place.{inPlace, placeNumber};
 use crate::keep::keep_part;
 use crate::port::Port;
 use command::Answer;
@@ -23,7 +22,14 @@ use message::seek_held;
 use stream::Sought;
 
 // The number of the first test that refuses, 0 where none does.
-fn feed_number(port: u8, first: usize, second: usize, w: Settings, room: &[u8], page: &[u8]) -> u8
+pub(crate) fn feed_number(
+    port: u8,
+    first: usize,
+    second: usize,
+    w: Settings,
+    room: &[u8],
+    page: &[u8],
+) -> u8
     ensures { λ r. ⌜ r ≡ feedNumber port first second w (now (room .entry)) (now (page .entry)) ⌝ }
 {
     if 1 < port {
@@ -100,7 +106,7 @@ fn skipped_with(k: usize, good: bool) -> usize
 // Keeps what a found message leaves of the bytes held and taken, and says how many they are.
 fn keep_after(bytes: &mut [u8], held: usize, chunk: &[u8], k: usize, n: usize, good: bool) -> usize
     requires { ⌜ (held ≤ 260) × (length (now bytes) ≡ 260) ⌝ }
-    requires { ⌜ seek front (take held (now bytes) ++ now chunk) ≡ Found k n good ⌝ }
+    requires { ⌜ (1 ≤ n) × (n ≤ 261) × (k + n ≤ held + length (now chunk)) ⌝ }
     ensures { λ r. ⌜ r ≡ length (leftOf k n good (take held (now (bytes .entry))) (now (chunk .entry))) ⌝ }
     ensures { λ r. ⌜ now (bytes .exit) ≡ padded (leftOf k n good (take held (now (bytes .entry))) (now (chunk .entry))) ⌝ }
 {
@@ -126,7 +132,7 @@ pub struct Stepped {
 // A step where nothing is found: the whole chunk is taken.
 fn step_starved(bytes: &mut [u8], held: usize, chunk: &[u8], k: usize, w: Settings) -> Stepped
     requires { ⌜ (held ≤ 260) × (length (now bytes) ≡ 260) ⌝ }
-    requires { ⌜ seek front (take held (now bytes) ++ now chunk) ≡ Starved k ⌝ }
+    requires { ⌜ (k ≤ held + length (now chunk)) × (held + length (now chunk) - k ≤ 260) ⌝ }
     ensures { λ r. ⌜ r ≡ record { number = 1; taken = length (now (chunk .entry)); skipped = k; saved = false; held = length (drop k (take held (now (bytes .entry)) ++ now (chunk .entry))); settings = w } ⌝ }
     ensures { λ r. ⌜ now (bytes .exit) ≡ padded (drop k (take held (now (bytes .entry)) ++ now (chunk .entry))) ⌝ }
 {
@@ -173,28 +179,29 @@ fn step_found(
     page: &mut [u8],
 ) -> Stepped
     requires { ⌜ (held ≤ 260) × (length (now bytes) ≡ 260) ⌝ }
-    requires { ⌜ seek front (take held (now bytes) ++ now chunk) ≡ Found k n good ⌝ }
-    ensures { λ r. ⌜ record { step = r; bytes = now (bytes .exit); room = now (room .exit); page = now (page .exit) } ≡ inPlace (stepOf port (take held (now (bytes .entry))) w (now (chunk .entry)) (now (room .entry)) (now (page .entry))) ⌝ }
+    requires { ⌜ (1 ≤ n) × (n ≤ 261) × (k + n ≤ held + length (now chunk)) ⌝ }
+    ensures { λ r. ⌜ record { step = r; bytes = now (bytes .exit); room = now (room .exit); page = now (page .exit) } ≡ inPlace (stepOn port (Found k n good) (take held (now (bytes .entry))) w (now (chunk .entry)) (now (room .entry)) (now (page .entry))) ⌝ }
 {
     let a = answer_at(port, bytes, held, chunk, k, good, w, room, page);
     let left = keep_after(bytes, held, chunk, k, n, good);
     reported(held, k, n, good, a, left)
 }
 
-// One accepted feed of a port, in its array.
-fn step(
+// One accepted call of a port, in its array.
+pub(crate) fn step(
     port: u8,
     bytes: &mut [u8],
     held: usize,
     chunk: &[u8],
+    quiet: bool,
     w: Settings,
     room: &mut [u8],
     page: &mut [u8],
 ) -> Stepped
     requires { ⌜ (held ≤ 260) × (length (now bytes) ≡ 260) ⌝ }
-    ensures { λ r. ⌜ record { step = r; bytes = now (bytes .exit); room = now (room .exit); page = now (page .exit) } ≡ inPlace (stepOf port (take held (now (bytes .entry))) w (now (chunk .entry)) (now (room .entry)) (now (page .entry))) ⌝ }
+    ensures { λ r. ⌜ record { step = r; bytes = now (bytes .exit); room = now (room .exit); page = now (page .exit) } ≡ inPlace (stepAt port quiet (take held (now (bytes .entry))) w (now (chunk .entry)) (now (room .entry)) (now (page .entry))) ⌝ }
 {
-    match seek_held(bytes, held, chunk) {
+    match seek_held(bytes, held, chunk, quiet) {
         Sought::Starved(k) => step_starved(bytes, held, chunk, k, w),
         Sought::Found(k, n, good) => step_found(
             port,
@@ -211,24 +218,25 @@ fn step(
     }
 }
 
-// The same in a port's own array.
-fn step_port(
+// A step in the array of a board's port, which is lent as a slice.
+pub(crate) fn step_port(
     port: u8,
     bytes: &mut [u8; 260],
     held: usize,
     chunk: &[u8],
+    quiet: bool,
     w: Settings,
     room: &mut [u8],
     page: &mut [u8],
 ) -> Stepped
     requires { ⌜ (held ≤ 260) × (length (now bytes) ≡ 260) ⌝ }
-    ensures { λ r. ⌜ record { step = r; bytes = now (bytes .exit); room = now (room .exit); page = now (page .exit) } ≡ inPlace (stepOf port (take held (now (bytes .entry))) w (now (chunk .entry)) (now (room .entry)) (now (page .entry))) ⌝ }
+    ensures { λ r. ⌜ record { step = r; bytes = now (bytes .exit); room = now (room .exit); page = now (page .exit) } ≡ inPlace (stepAt port quiet (take held (now (bytes .entry))) w (now (chunk .entry)) (now (room .entry)) (now (page .entry))) ⌝ }
 {
-    step(port, bytes, held, chunk, w, room, page)
+    step(port, bytes, held, chunk, quiet, w, room, page)
 }
 
-// The number of the first test that refuses a feed in place.
-fn place_number(
+// The number of the first test that refuses a call in place.
+pub(crate) fn place_number(
     port: u8,
     bytes: &[u8],
     first: usize,
@@ -246,109 +254,4 @@ fn place_number(
         return 17;
     }
     feed_number(port, first, second, w, room, page)
-}
-
-// A feed for a caller that keeps the board: `bytes` is the array of the named port, which is written in place, `first` and
-// `second` are the held counts of both ports, and the answer has the named port's held count and the settings afterwards.
-pub fn feed_in_place(
-    port: u8,
-    bytes: &mut [u8],
-    first: usize,
-    second: usize,
-    w: Settings,
-    chunk: &[u8],
-    room: &mut [u8],
-    page: &mut [u8],
-) -> Stepped
-    ensures { λ r. ⌜ record { step = r; bytes = now (bytes .exit); room = now (room .exit); page = now (page .exit) } ≡ placeOf port (now (bytes .entry)) first second w (now (chunk .entry)) (now (room .entry)) (now (page .entry)) ⌝ }
-{
-    let number = place_number(port, bytes, first, second, w, room, page);
-    let held = held_of(port, first, second);
-    if number != 0 {
-        return Stepped {
-            number,
-            taken: 0,
-            skipped: 0,
-            saved: false,
-            held,
-            settings: w,
-        };
-    }
-    step(port, bytes, held, chunk, w, room, page)
-}
-
-fn held_of(port: u8, first: usize, second: usize) -> usize
-    ensures { λ r. ⌜ r ≡ namedHeld port first second ⌝ }
-{
-    if port == 0 { first } else { second }
-}
-
-// A feed of a sound board's first port, in its place: the second port is not touched.
-fn feed_first(port: u8, mut board: Board, chunk: &[u8], room: &mut [u8], page: &mut [u8]) -> Fed
-    requires { ⌜ board .first .held ≤ 260 ⌝ }
-    ensures { λ r. ⌜ record { answer = r; room = now (room .exit); page = now (page .exit) } ≡ feedOn (stepOf port (heldBytes (board .first)) (board .settings) (now (chunk .entry)) (now (room .entry)) (now (page .entry))) 0 board ⌝ }
-{
-    let held = board.first.held;
-    let w = board.settings;
-    let s = step_port(port, &mut board.first.bytes, held, chunk, w, room, page);
-    board.first.held = s.held;
-    board.settings.baud = s.settings.baud;
-    board.settings.accelerometer = s.settings.accelerometer;
-    board.settings.gyroscope = s.settings.gyroscope;
-    Fed {
-        number: s.number,
-        taken: s.taken,
-        skipped: s.skipped,
-        saved: s.saved,
-        board,
-    }
-}
-
-// A feed of its second port: the first is not touched.
-fn feed_second(port: u8, mut board: Board, chunk: &[u8], room: &mut [u8], page: &mut [u8]) -> Fed
-    requires { ⌜ board .second .held ≤ 260 ⌝ }
-    ensures { λ r. ⌜ record { answer = r; room = now (room .exit); page = now (page .exit) } ≡ feedOn (stepOf port (heldBytes (board .second)) (board .settings) (now (chunk .entry)) (now (room .entry)) (now (page .entry))) 1 board ⌝ }
-{
-    let held = board.second.held;
-    let w = board.settings;
-    let s = step_port(port, &mut board.second.bytes, held, chunk, w, room, page);
-    board.second.held = s.held;
-    board.settings.baud = s.settings.baud;
-    board.settings.accelerometer = s.settings.accelerometer;
-    board.settings.gyroscope = s.settings.gyroscope;
-    Fed {
-        number: s.number,
-        taken: s.taken,
-        skipped: s.skipped,
-        saved: s.saved,
-        board,
-    }
-}
-
-// Feeds a chunk to a port: takes bytes up to the end of the first message, handles it and writes the reply to the front
-// of `room`, or takes the whole chunk where there is none. A refused feed changes nothing.
-pub fn feed(port: u8, board: Board, chunk: &[u8], room: &mut [u8], page: &mut [u8]) -> Fed
-    ensures { λ r. ⌜ record { answer = r; room = now (room .exit); page = now (page .exit) } ≡ feedOf port board (now (chunk .entry)) (now (room .entry)) (now (page .entry)) ⌝ }
-{
-    let number = feed_number(
-        port,
-        board.first.held,
-        board.second.held,
-        board.settings,
-        room,
-        page,
-    );
-    if number != 0 {
-        return Fed {
-            number,
-            taken: 0,
-            skipped: 0,
-            saved: false,
-            board,
-        };
-    }
-    if port == 0 {
-        return feed_first(port, board, chunk, room, page);
-    }
-    feed_second(port, board, chunk, room, page)
 }

@@ -1,6 +1,7 @@
-// The board: two ports that hold unread bytes, the working settings, starting and feeding. The definitions that the
+// The board: two ports that hold unread bytes, the working settings, starting, feeding and silences. The definitions that the
 // contracts cite stand in specs/.
 mod board;
+mod calls;
 mod feeding;
 mod keep;
 mod port;
@@ -9,9 +10,12 @@ mod starting;
 pub use board::Board;
 pub use board::Fed;
 pub use board::Started;
+pub use calls::call_in_place;
+pub use calls::feed;
+pub use calls::feed_in_place;
+pub use calls::silence;
+pub use calls::silence_in_place;
 pub use feeding::Stepped;
-pub use feeding::feed;
-pub use feeding::feed_in_place;
 pub use port::Port;
 pub use starting::StartedInPlace;
 pub use starting::start;

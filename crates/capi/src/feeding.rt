@@ -1,8 +1,9 @@
-// The board: starting and feeding. The caller keeps it, and it is fed in place. A feed by value is left out: it would copy the
-// board three times, and a second caller of the step would keep the compiler from making one function of a whole feed.
+// The board: starting, feeding and silences. The caller keeps it, and it is called in place. A feed by value is left out: it would copy
+// the board three times, and a second caller of the step would keep the compiler from making one function of a whole feed.
 ghost use mathlib.Core.Path.{_≡_};
 ghost use Rattle.board.specs.Start.{startOf, startPlaceOf};
-ghost use Rattle.board.specs.Feed.{placeOf};
+ghost use Rattle.board.specs.Feed.{inputOf};
+ghost use Rattle.board.specs.Place.{placeBy};
 use board::Started;
 use board::StartedInPlace;
 use board::Stepped;
@@ -32,24 +33,39 @@ pub extern "C" fn ketphiroj_start_in_place(
     board::start_in_place(first, second, page)
 }
 
-// Feeds a chunk to port 0 or 1, without a copy of the board: `bytes` are the 260 bytes of the named port, written in place,
-// `first` and `second` the held counts of ports 0 and 1. Number 0: a message was answered, its reply stands at the front of
-// `room`, and an accepted save or a fresh number has written the page; the rest of the chunk, behind the bytes taken, is to be fed again. Number
-// 1: the whole chunk was taken, and there is nothing more to report. Nothing is written to the room or the page then. The
-// answer has the named port's held count and the settings afterwards. A refusal (16 to 20) writes nothing and answers those
-// given; an array that is not 260 bytes gives 17.
+// A feed of a chunk to port 0 or 1, or with `quiet` a silence, without a copy of the board: `bytes` are the 260 bytes of the named port,
+// written in place, `first` and `second` the held counts of ports 0 and 1. Number 0: a message was answered, its reply stands at the
+// front of `room`, and an accepted save or a fresh number has written the page; the rest of the chunk, behind the bytes taken, is to
+// be fed again, and a silence is to be repeated. Number 1: the whole chunk was taken, and there is nothing more to report; after a
+// silence nothing is held. Nothing is written to the room or the page then. The answer has the named port's held count and the settings
+// afterwards. A refusal (16 to 20) writes nothing and answers those given; an array that is not 260 bytes gives 17. With `quiet` the
+// chunk is not looked at, and none is taken.
+//
+// One function for both, so that the compiler makes one of a whole call: with two, a feed is a function that calls another, and
+// takes more stack (docs/DECISIONS.md). The header gives each its name.
 #[no_mangle]
-pub extern "C" fn ketphiroj_feed_in_place(
+pub extern "C" fn ketphiroj_call_in_place(
     port: u8,
     bytes: &mut [u8],
     first: usize,
     second: usize,
     settings: Settings,
+    quiet: bool,
     chunk: &[u8],
     room: &mut [u8],
     page: &mut [u8],
 ) -> Stepped
-    ensures { λ r. ⌜ record { step = r; bytes = now (bytes .exit); room = now (room .exit); page = now (page .exit) } ≡ placeOf port (now (bytes .entry)) first second settings (now (chunk .entry)) (now (room .entry)) (now (page .entry)) ⌝ }
+    ensures { λ r. ⌜ record { step = r; bytes = now (bytes .exit); room = now (room .exit); page = now (page .exit) } ≡ placeBy port (now (bytes .entry)) first second settings (inputOf quiet (now (chunk .entry))) (now (room .entry)) (now (page .entry)) ⌝ }
 {
-    board::feed_in_place(port, bytes, first, second, settings, chunk, room, page)
+    board::call_in_place(
+        port,
+        bytes,
+        first,
+        second,
+        settings,
+        quiet,
+        chunk,
+        room,
+        page,
+    )
 }

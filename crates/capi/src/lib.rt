@@ -8,7 +8,7 @@ mod messages;
 mod pages;
 mod samples;
 
-pub use feeding::ketphiroj_feed_in_place;
+pub use feeding::ketphiroj_call_in_place;
 pub use feeding::ketphiroj_start;
 pub use feeding::ketphiroj_start_in_place;
 pub use flat::FlatField;

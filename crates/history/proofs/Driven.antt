@@ -1,44 +1,115 @@
--- Two steps that keep their states related, and answer alike, do so over every list of feeds.
-use mathlib.Core.Path.{_≡_, refl}
+-- Two steps that keep their states related, and answer alike, do so over every history of calls and restarts whose silences are drained.
+use mathlib.Core.Path.{_≡_, refl, sym, ap}
+use mathlib.Core.Bool.{Bool, true, false}
 use mathlib.Core.List.{List, [], _∷_}
 use Prim.Native.Nat.{ℕ, zero, suc}
-use Rattle.history.specs.Feeds.{Feed, Step, Run, run, State, Turn, portOf, settled}
+use Rattle.stream.proofs.Bools.{differ}
+use Rattle.history.specs.Calls.{Input, fed, silent, Call, Answer, Step, Run, run, State, Turn, portOf, settled}
+use Rattle.history.specs.Drained.{Undrained, noSilence, undrainedOf, withUndrained, undrainedBy, undrainedAfter, early, unlessEarly, drainedFrom}
+use Rattle.history.specs.Restarts.{Act, call, restart, historyFrom, drainedActs, calls, WithoutRestarts, DrainedWithoutRestarts}
 
-module _ {S T : Type 0} (R : S → T → Type 0) where
-  pub record Stepped (s : Step S) (t : Step T) : Type 0 where
+-- A list that is drained begins with a call that is not early, and goes on drained.
+pub unless-early : (e rest : Bool) → unlessEarly e rest ≡ true → (e ≡ false) × (rest ≡ true)
+unless-early true rest h = differ (sym h)
+unless-early false rest h = (refl, h)
+
+-- A refusal changes nothing.
+pub undrained-kept : (p : ℕ) (i : Input) (n : ℕ) (u : Undrained) → withUndrained p (undrainedBy i (suc (suc n)) (undrainedOf p u)) u ≡ u
+undrained-kept zero (fed chunk) n u = refl
+undrained-kept zero silent n u = refl
+undrained-kept (suc p) (fed chunk) n u = refl
+undrained-kept (suc p) silent n u = refl
+
+-- ---- A history without a restart is a list of calls.
+
+pub without-restarts : WithoutRestarts
+unfolding historyFrom run
+without-restarts S step restarted s [] = refl
+without-restarts S step restarted s (c ∷ cs) =
+    ap (λ (r : Run S). record { answers = step s c .answer ∷ r .answers; final = r .final }) (without-restarts S step restarted (step s c .state) cs)
+
+drained-acts : (u : Undrained) (cs : List Call) (answers : List Answer) → drainedActs u (calls cs) answers ≡ drainedFrom u cs answers
+unfolding drainedActs drainedFrom
+drained-acts u [] answers = refl
+drained-acts u (c ∷ cs) [] = refl
+drained-acts u (c ∷ cs) (a ∷ answers) =
+    ap (unlessEarly (early (c .input) (a .number) (undrainedOf (c .port) u))) (drained-acts (undrainedAfter c (a .number) u) cs answers)
+
+pub drained-without-restarts : DrainedWithoutRestarts
+drained-without-restarts cs answers = drained-acts noSilence cs answers
+
+-- ---- R relates two states after a history; what its silences left undrained counts.
+module _ {S T : Type 0} (R : Undrained → S → T → Type 0) where
+  pub record Stepped (u : Undrained) (s : Step S) (t : Step T) : Type 0 where
     pub answer : s .answer ≡ t .answer
-    pub state : R (s .state) (t .state)
+    pub state : R u (s .state) (t .state)
 
   pub record Agreed (s : Run S) (t : Run T) : Type 0 where
     pub answers : s .answers ≡ t .answers
-    pub final : R (s .final) (t .final)
+    pub left : Undrained
+    pub final : R left (s .final) (t .final)
 
-  pub run-related : (f : S → Feed → Step S) (g : T → Feed → Step T) → ((s : S) (t : T) (d : Feed) → R s t → Stepped (f s d) (g t d))
-      → (s : S) (t : T) (ds : List Feed) → R s t → Agreed (run f s ds) (run g t ds)
-  unfolding run
-  run-related f g same s t [] r = record { answers = refl; final = r }
-  run-related f g same s t (d ∷ ds) r =
-      let one : Stepped (f s d) (g t d) = same s t d r in
-      let rest = run-related f g same (f s d .state) (g t d .state) ds (one .state) in
-      record { answers = cc (one .answer, rest .answers); final = rest .final }
+  module _ (f : S → Call → Step S) (g : T → Call → Step T) (a : S → S) (b : T → T)
+      (same : (u : Undrained) (s : S) (t : T) (c : Call) → R u s t → early (c .input) (f s c .answer .number) (undrainedOf (c .port) u) ≡ false
+      → Stepped (undrainedAfter c (f s c .answer .number) u) (f s c) (g t c))
+      (again : (u : Undrained) (s : S) (t : T) → R u s t → R noSilence (a s) (b t)) where
+    pub history-related : (u : Undrained) (s : S) (t : T) (acts : List (Act Call)) → R u s t → drainedActs u acts (historyFrom f a s acts .answers) ≡ true
+        → Agreed (historyFrom f a s acts) (historyFrom g b t acts)
+    unfolding historyFrom drainedActs
+    history-related u s t [] r d = record { answers = refl; left = u; final = r }
+    history-related u s t (restart ∷ acts) r d = history-related noSilence (a s) (b t) acts (again u s t r) d
+    history-related u s t (call c ∷ acts) r d =
+        let n : ℕ = f s c .answer .number in
+        let h =
+        unless-early (early (c .input) n (undrainedOf (c .port) u)) (drainedActs (undrainedAfter c n u) acts (historyFrom f a (f s c .state) acts .answers)) d in
+        let one : Stepped (undrainedAfter c n u) (f s c) (g t c) = same u s t c r (h .0) in
+        let rest = history-related (undrainedAfter c n u) (f s c .state) (g t c .state) acts (one .state) (h .1) in
+        record { answers = cc (one .answer, rest .answers); left = rest .left; final = rest .final }
+
+    -- Where both also take a feed early at the same time, the answers of either tell whether a history is drained.
+    pub history-drained : ((u : Undrained) (s : S) (t : T) (c : Call) → R u s t
+        → early (c .input) (g t c .answer .number) (undrainedOf (c .port) u) ≡ early (c .input) (f s c .answer .number) (undrainedOf (c .port) u))
+        → (u : Undrained) (s : S) (t : T) (acts : List (Act Call)) → R u s t
+        → drainedActs u acts (historyFrom g b t acts .answers) ≡ drainedActs u acts (historyFrom f a s acts .answers)
+    unfolding historyFrom drainedActs
+    history-drained both u s t [] r = refl
+    history-drained both u s t (restart ∷ acts) r = history-drained both noSilence (a s) (b t) acts (again u s t r)
+    history-drained both u s t (call c ∷ acts) r =
+        go (early (c .input) (f s c .answer .number) (undrainedOf (c .port) u)) refl
+        (λ (one : Stepped (undrainedAfter c (f s c .answer .number) u) (f s c) (g t c)).
+        history-drained both (undrainedAfter c (f s c .answer .number) u) (f s c .state) (g t c .state) acts (one .state))
+      where
+        go : (e : Bool) → early (c .input) (f s c .answer .number) (undrainedOf (c .port) u) ≡ e
+            → (Stepped (undrainedAfter c (f s c .answer .number) u) (f s c) (g t c)
+            → drainedActs (undrainedAfter c (f s c .answer .number) u) acts (historyFrom g b (g t c .state) acts .answers)
+            ≡ drainedActs (undrainedAfter c (f s c .answer .number) u) acts (historyFrom f a (f s c .state) acts .answers))
+            → unlessEarly (early (c .input) (g t c .answer .number) (undrainedOf (c .port) u))
+            (drainedActs (undrainedAfter c (g t c .answer .number) u) acts (historyFrom g b (g t c .state) acts .answers))
+            ≡ unlessEarly (early (c .input) (f s c .answer .number) (undrainedOf (c .port) u))
+            (drainedActs (undrainedAfter c (f s c .answer .number) u) acts (historyFrom f a (f s c .state) acts .answers))
+        go true e ih = rw (both u s t c r, e)
+        go false e ih =
+            let one : Stepped (undrainedAfter c (f s c .answer .number) u) (f s c) (g t c) = same u s t c r e in
+            let n : f s c .answer .number ≡ g t c .answer .number = cc (one .answer) in
+            rw (both u s t c r, e, ← n) (ih one)
 
 -- ---- Two ports: R relates what is kept of a port, L the values.
-module _ {A B X W : Type 0} (R : A → B → Type 0) (L : X → W → Type 0) where
-  pub record Alike (t : Turn A X) (u : Turn B W) : Type 0 where
+module _ {A B X W : Type 0} (R : Bool → A → B → Type 0) (L : X → W → Type 0) where
+  pub record Alike (undrained : Bool) (t : Turn A X) (u : Turn B W) : Type 0 where
     pub answer : t .answer ≡ u .answer
-    pub port : R (t .port) (u .port)
+    pub port : R undrained (t .port) (u .port)
     pub values : L (t .values) (u .values)
 
-  pub record Related (s : State A X) (t : State B W) : Type 0 where
-    pub port0 : R (s .port0) (t .port0)
-    pub port1 : R (s .port1) (t .port1)
+  pub record Related (u : Undrained) (s : State A X) (t : State B W) : Type 0 where
+    pub port0 : R (u .port0) (s .port0) (t .port0)
+    pub port1 : R (u .port1) (s .port1) (t .port1)
     pub values : L (s .values) (t .values)
 
-  pub port-related : (p : ℕ) (s : State A X) (t : State B W) → Related s t → R (portOf p s) (portOf p t)
-  port-related zero s t r = r .port0
-  port-related (suc p) s t r = r .port1
+  pub port-related : (p : ℕ) (u : Undrained) (s : State A X) (t : State B W) → Related u s t → R (undrainedOf p u) (portOf p s) (portOf p t)
+  port-related zero u s t r = r .port0
+  port-related (suc p) u s t r = r .port1
 
-  pub settled-related : (p : ℕ) (s : State A X) (t : State B W) (x : Turn A X) (y : Turn B W) → Related s t → Alike x y
-      → Related (settled p s x) (settled p t y)
-  settled-related zero s t x y r h = record { port0 = h .port; port1 = r .port1; values = h .values }
-  settled-related (suc p) s t x y r h = record { port0 = r .port0; port1 = h .port; values = h .values }
+  pub settled-related : (p : ℕ) (b : Bool) (u : Undrained) (s : State A X) (t : State B W) (x : Turn A X) (y : Turn B W) → Related u s t → Alike b x y
+      → Related (withUndrained p b u) (settled p s x) (settled p t y)
+  settled-related zero b u s t x y r h = record { port0 = h .port; port1 = r .port1; values = h .values }
+  settled-related (suc p) b u s t x y r h = record { port0 = r .port0; port1 = h .port; values = h .values }

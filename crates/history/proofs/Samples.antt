@@ -1,4 +1,4 @@
--- One list of feeds, by the reckoning and by the program: on a small framing, in which a message is 5, a number n, n bytes, and
+-- Lists of calls, by the reckoning and by the program: on a small framing, in which a message is 5, a number n, n bytes, and
 -- a last byte that is 1 where the message is good.
 use mathlib.Core.Path.{_≡_, refl}
 use mathlib.Core.Bool.{true, false}
@@ -10,10 +10,11 @@ use Rattle.stream.specs.declared.Verdict.{Verdict}
 use Rattle.stream.specs.Framing.{frontBy}
 use Rattle.stream.specs.Scan.{Message, eventsPast}
 use Rattle.stream.specs.Seek.{seek}
-use Rattle.history.specs.Feeds.{Feed, Answer, run}
+use Rattle.history.specs.Calls.{fed, silent, Call, Answer, run}
 use Rattle.history.specs.Reckoning.{Outcome, shortest, handleNext, usedUp, reckonFeed, reckonStep, reckoning}
-use Rattle.history.specs.Program.{passing, heldOn, heldFeed, heldStep, heldProgram}
+use Rattle.history.specs.Program.{passing, heldOn, heldCall, heldStep, heldProgram}
 use Rattle.history.specs.Ports.{unfed, historyOf}
+use Rattle.history.specs.Drained.{drainedFrom, drained}
 use Rattle.history.specs.Restarts.{Act, call, restart, historyFrom, heldHistory, reckonedHistory}
 
 front : List ℕ → Verdict
@@ -25,13 +26,13 @@ count p w m = record { reply = m .bytes; saved = m .good; next = suc w }
 
 -- A damaged message that holds a good one, with a byte before it; then the good one, of which nothing is taken any more; then
 -- the rest. Between them a port that is none, and a room that is too small.
-feeds : List Feed
+feeds : List Call
 feeds =
-    record { port = 0; chunk = 9 ∷ 5 ∷ 3 ∷ 5 ∷ 0 ∷ 1 ∷ 0 ∷ 8 ∷ []; room = 1 }
-    ∷ record { port = 2; chunk = 8 ∷ []; room = 0 }
-    ∷ record { port = 0; chunk = 8 ∷ []; room = 1 }
-    ∷ record { port = 1; chunk = 8 ∷ []; room = 0 }
-    ∷ record { port = 0; chunk = 8 ∷ 5 ∷ []; room = 1 }
+    record { port = 0; input = fed (9 ∷ 5 ∷ 3 ∷ 5 ∷ 0 ∷ 1 ∷ 0 ∷ 8 ∷ []); room = 1 }
+    ∷ record { port = 2; input = fed (8 ∷ []); room = 0 }
+    ∷ record { port = 0; input = fed (8 ∷ []); room = 1 }
+    ∷ record { port = 1; input = fed (8 ∷ []); room = 0 }
+    ∷ record { port = 0; input = fed (8 ∷ 5 ∷ []); room = 1 }
     ∷ []
 
 damaged : Message
@@ -54,26 +55,26 @@ unfolding front count feeds damaged good answers eventsPast run shortest handleN
 reckoned = refl
 
 programmed : heldProgram front count 258 1 (λ w. passing) 0 feeds .answers ≡ answers
-unfolding front count feeds damaged good answers seek run heldOn heldFeed heldStep heldProgram
+unfolding front count feeds damaged good answers seek run heldOn heldCall heldStep heldProgram
 programmed = refl
 
 held : heldProgram front count 258 1 (λ w. passing) 0 feeds .final ≡ record { port0 = 5 ∷ []; port1 = []; values = 2 }
-unfolding front count feeds seek run heldOn heldFeed heldStep heldProgram
+unfolding front count feeds seek run heldOn heldCall heldStep heldProgram
 held = refl
 
 -- 9 bytes taken are 3 of a good message, 5 skipped and 1 held.
 told : historyOf 0 unfed feeds answers
-    ≡ record { bytes = 9 ∷ 5 ∷ 3 ∷ 5 ∷ 0 ∷ 1 ∷ 0 ∷ 8 ∷ 5 ∷ []; taken = 9; count = 2; skips = 5; reports = damaged ∷ good ∷ []; last = 1 }
+    ≡ record { stream = record { segments = []; current = 9 ∷ 5 ∷ 3 ∷ 5 ∷ 0 ∷ 1 ∷ 0 ∷ 8 ∷ 5 ∷ [] }; taken = 9; count = 2; skips = 5; reports = damaged ∷ good ∷ []; last = 1 }
 unfolding feeds damaged good answers historyOf
 told = refl
 
--- With a restart: what was held of a message is lost, so that its end is nothing; then a whole one. A start adds ten to the count.
-acts : List (Act Feed)
+-- ---- With a restart: what was held of a message is lost, so that its end is nothing; then a whole one. A start adds ten to the count.
+acts : List (Act Call)
 acts =
-    call (record { port = 0; chunk = 5 ∷ 0 ∷ []; room = 1 })
+    call (record { port = 0; input = fed (5 ∷ 0 ∷ []); room = 1 })
     ∷ restart
-    ∷ call (record { port = 0; chunk = 1 ∷ []; room = 1 })
-    ∷ call (record { port = 0; chunk = 5 ∷ 0 ∷ 1 ∷ []; room = 1 })
+    ∷ call (record { port = 0; input = fed (1 ∷ []); room = 1 })
+    ∷ call (record { port = 0; input = fed (5 ∷ 0 ∷ 1 ∷ []); room = 1 })
     ∷ []
 
 restarted : List Answer
@@ -88,9 +89,100 @@ unfolding front count good acts restarted eventsPast shortest handleNext usedUp 
 reckoned-acts = refl
 
 programmed-acts : heldHistory front count 258 1 (λ w. passing) (λ w. w + 10) 0 acts .answers ≡ restarted
-unfolding front count good acts restarted seek heldOn heldFeed heldStep historyFrom heldHistory
+unfolding front count good acts restarted seek heldOn heldCall heldStep historyFrom heldHistory
 programmed-acts = refl
 
 kept-acts : heldHistory front count 258 1 (λ w. passing) (λ w. w + 10) 0 acts .final ≡ record { port0 = []; port1 = []; values = 21 }
-unfolding front count acts seek heldOn heldFeed heldStep historyFrom heldHistory
+unfolding front count acts seek heldOn heldCall heldStep historyFrom heldHistory
 kept-acts = refl
+
+-- ---- A false header that claims 9 bytes more, with a message behind it and the beginning of another; then the line goes quiet. The
+-- silence finds the message, a second one drains the rest, a third has nothing to do; and a message whose bytes lie on both sides
+-- of the marks is none. Between them calls that do not count: refused ones, and a feed of the other port while this one is not drained.
+
+quiet : List Call
+quiet =
+    record { port = 0; input = fed (5 ∷ 9 ∷ 5 ∷ 0 ∷ 1 ∷ 5 ∷ []); room = 1 }
+    ∷ record { port = 0; input = silent; room = 0 }
+    ∷ record { port = 0; input = silent; room = 1 }
+    ∷ record { port = 0; input = fed (8 ∷ []); room = 0 }
+    ∷ record { port = 1; input = fed (8 ∷ []); room = 1 }
+    ∷ record { port = 0; input = silent; room = 1 }
+    ∷ record { port = 0; input = silent; room = 1 }
+    ∷ record { port = 0; input = silent; room = 0 }
+    ∷ record { port = 0; input = fed (0 ∷ 1 ∷ 5 ∷ 0 ∷ 1 ∷ []); room = 1 }
+    ∷ []
+
+quiet-answers : List Answer
+quiet-answers =
+    record { number = 1; taken = 6; skipped = 0; saved = false; reply = []; reports = [] }
+    ∷ record { number = 18; taken = 0; skipped = 0; saved = false; reply = []; reports = [] }
+    ∷ record { number = 0; taken = 0; skipped = 2; saved = true; reply = good .bytes; reports = good ∷ [] }
+    ∷ record { number = 18; taken = 0; skipped = 0; saved = false; reply = []; reports = [] }
+    ∷ record { number = 1; taken = 1; skipped = 1; saved = false; reply = []; reports = [] }
+    ∷ record { number = 1; taken = 0; skipped = 1; saved = false; reply = []; reports = [] }
+    ∷ record { number = 1; taken = 0; skipped = 0; saved = false; reply = []; reports = [] }
+    ∷ record { number = 18; taken = 0; skipped = 0; saved = false; reply = []; reports = [] }
+    ∷ record { number = 0; taken = 5; skipped = 2; saved = true; reply = good .bytes; reports = good ∷ [] }
+    ∷ []
+
+quiet-reckoned : reckoning front count 1 0 quiet .answers ≡ quiet-answers
+unfolding front count quiet good quiet-answers eventsPast run shortest handleNext usedUp reckonFeed reckonStep reckoning
+quiet-reckoned = refl
+
+quiet-programmed : heldProgram front count 258 1 (λ w. passing) 0 quiet .answers ≡ quiet-answers
+unfolding front count quiet good quiet-answers seek run heldOn heldCall heldStep heldProgram
+quiet-programmed = refl
+
+quiet-drained : drained quiet quiet-answers ≡ true
+unfolding quiet quiet-answers drainedFrom
+quiet-drained = refl
+
+-- The marks stand behind the six bytes. 11 bytes taken are 6 of good messages and 5 skipped.
+quiet-told : historyOf 0 unfed quiet quiet-answers
+    ≡ record {
+      stream = record { segments = (5 ∷ 9 ∷ 5 ∷ 0 ∷ 1 ∷ 5 ∷ []) ∷ [] ∷ [] ∷ []; current = 0 ∷ 1 ∷ 5 ∷ 0 ∷ 1 ∷ [] };
+      taken = 11;
+      count = 2;
+      skips = 5;
+      reports = good ∷ good ∷ [];
+      last = 0;
+    }
+unfolding quiet good quiet-answers historyOf
+quiet-told = refl
+
+-- ---- A feed that comes before the silence is drained: the program takes it, over the bytes 5 9 that are left; the reckoning skips
+-- those up to the mark, and finds the message behind it.
+
+earlyFeed : List Call
+earlyFeed =
+    record { port = 0; input = fed (5 ∷ 9 ∷ 5 ∷ 0 ∷ 1 ∷ 5 ∷ 9 ∷ []); room = 1 }
+    ∷ record { port = 0; input = silent; room = 1 }
+    ∷ record { port = 0; input = fed (5 ∷ 0 ∷ 1 ∷ []); room = 1 }
+    ∷ []
+
+earlyFeed-answers : Answer → List Answer
+earlyFeed-answers last =
+    record { number = 1; taken = 7; skipped = 0; saved = false; reply = []; reports = [] }
+    ∷ record { number = 0; taken = 0; skipped = 2; saved = true; reply = good .bytes; reports = good ∷ [] }
+    ∷ last
+    ∷ []
+
+earlyFeed-reckoned : reckoning front count 1 0 earlyFeed .answers
+    ≡ earlyFeed-answers (record { number = 0; taken = 3; skipped = 2; saved = true; reply = good .bytes; reports = good ∷ [] })
+unfolding front count earlyFeed good earlyFeed-answers eventsPast run shortest handleNext usedUp reckonFeed reckonStep reckoning
+earlyFeed-reckoned = refl
+
+earlyFeed-programmed : heldProgram front count 258 1 (λ w. passing) 0 earlyFeed .answers
+    ≡ earlyFeed-answers (record { number = 1; taken = 3; skipped = 0; saved = false; reply = []; reports = [] })
+unfolding front count earlyFeed good earlyFeed-answers seek run heldOn heldCall heldStep heldProgram
+earlyFeed-programmed = refl
+
+-- It is no list of demand 3, whichever answers tell.
+earlyFeed-early : (a : Answer) → a .number ≡ 0 → drained earlyFeed (earlyFeed-answers a) ≡ false
+unfolding earlyFeed earlyFeed-answers drainedFrom
+earlyFeed-early a e = rw e
+
+earlyFeed-early-too : (a : Answer) → a .number ≡ 1 → drained earlyFeed (earlyFeed-answers a) ≡ false
+unfolding earlyFeed earlyFeed-answers drainedFrom
+earlyFeed-early-too a e = rw e

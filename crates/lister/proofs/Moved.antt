@@ -8,11 +8,14 @@ use lib.ListN.{length, take, drop, length-append, length-take, length-drop}
 use Rattle.stream.specs.declared.Sought.{Sought}
 use Rattle.stream.specs.declared.Sought.the-variants.{Starved, Found}
 use Rattle.stream.specs.Seek.{seek, resume}
+use Rattle.stream.proofs.Cuts.{found-sized}
+use Rattle.history.specs.Calls.{fed}
 use Rattle.message.specs.Front.{front}
 use Rattle.message.proofs.Framed.{cutting-harmless}
 use Rattle.command.specs.declared.settings.Settings.{Settings}
 use Rattle.board.specs.declared.feeding.Stepped.{Stepped}
-use Rattle.board.specs.Feed.{leftOf, stepOn, stepOf, Stepping, inPlace, placeNumber, placeOn, placeOf}
+use Rattle.board.specs.Feed.{leftOf, stepOn, stepBy}
+use Rattle.board.specs.Place.{Stepping, inPlace, placeNumber, placeOn, placeBy, placeOf}
 use Rattle.board.proofs.Places.{resume-in, resume-past}
 use Rattle.lister.specs.Moves.{Moves}
 
@@ -29,7 +32,7 @@ module _ (bytes : List ℕ) (old : ℕ) (w : Settings) (chunk room page : List �
   found-moves : (k n : ℕ) (good : Bool) → seek front (held ++ chunk) ≡ Found k n good
       → Moves old chunk 0 (k + n - length held) (length (leftOf k n good held chunk))
   found-moves k n good e =
-      let s = cutting-harmless .found-sized (held ++ chunk) k n good e in
+      let s = found-sized cutting-harmless (held ++ chunk) k n good e in
       let l = length-append held chunk in
       let p = resume-past k n (s .some) good in
       let q = resume-in k n (s .some) good in
@@ -42,13 +45,13 @@ module _ (bytes : List ℕ) (old : ℕ) (w : Settings) (chunk room page : List �
   step-moves (Found k n good) e = found-moves k n good e
   step-moves (Starved k) e = record { inside = omega arith; fewer = λ z. let w : ⊥ = omega arith in absurd w }
 
-  place-moves : (m : ℕ) → Fine (placeOn m 0 bytes old w chunk room page .step)
-  unfolding stepOf
+  place-moves : (m : ℕ) → Fine (placeOn m 0 bytes old w (fed chunk) room page .step)
+  unfolding stepBy
   place-moves zero = step-moves (seek front (held ++ chunk)) refl
   place-moves (suc m) = record { inside = omega arith; fewer = λ z. let w : ⊥ = omega arith in absurd w }
 
   feed-moves : Fine (placeOf 0 bytes old 0 w chunk room page .step)
-  unfolding placeOf
+  unfolding placeBy
   feed-moves = place-moves (placeNumber 0 bytes old 0 w room page)
 
 pub fed-moves : (bytes : List ℕ) (old : ℕ) (w : Settings) (chunk room page bytesAfter roomAfter pageAfter : List ℕ) (s : Stepped)

@@ -11,8 +11,10 @@ use Rattle.stream.specs.declared.Sought.the-variants.{Starved, Found}
 use Rattle.stream.specs.declared.Verdict.the-variants.{Whole}
 use Rattle.stream.specs.Framing.{Framing}
 use Rattle.stream.specs.Seek.{seek}
+use Rattle.stream.specs.Silence.{End, upTo}
 use Rattle.stream.proofs.Framings.{Header, framing, IsWhole, is-whole}
-use Rattle.stream.proofs.Cuts.{cutting, starved-is}
+use Rattle.stream.proofs.Cuts.{cutting}
+use Rattle.stream.proofs.Scans.{found-is, starved-is}
 use Rattle.message.specs.Message.{sumsRight}
 use Rattle.message.specs.Front.{a5OrNone, startsWithA5, opens, sizeOf, front, mostUndecided}
 use Rattle.message.specs.Theorems.{CuttingHarmless}
@@ -59,9 +61,9 @@ cutting-harmless = cutting front mostUndecided 3 ms-cip
 
 -- ---- where a seek ends is within the bytes
 
-module _ (u : List ℕ) (r : Sought) (is : r ≡ seek front u) where
+module _ (end : End) (u : List ℕ) (r : Sought) (is : r ≡ seek (upTo end front) u) where
   pub starved-within : (k : ℕ) → r ≡ Starved k → k ≤ length u
-  starved-within k e = starved-is cutting-harmless u k (sym is ∙ e) .inside
+  starved-within k e = starved-is (cutting-harmless .scanning end) u k (sym is ∙ e) .inside
 
   pub found-within : (k n : ℕ) (good : Bool) → r ≡ Found k n good → k + n ≤ length u
-  found-within k n good e = cutting-harmless .found-sized u k n good (sym is ∙ e) .inside
+  found-within k n good e = found-is (cutting-harmless .scanning end) u k n good (sym is ∙ e) .sized .inside

@@ -11,6 +11,7 @@ use lib.Seq.{drop-append-le, take-at, drop-at, getD-at, getD-append-add, take-le
 use borrow.Author.Tests.{ltb-false, eqb-true, eq-eqb, ne-eqb}
 use Rattle.stream.specs.declared.Verdict.the-variants.{Whole}
 use Rattle.stream.specs.Scan.{skipped, reported, events}
+use Rattle.stream.specs.Silence.{running}
 use Rattle.stream.proofs.Bools.{and-both}
 use Rattle.message.specs.Fletcher.{sums}
 use Rattle.message.specs.Message.{summedBytes, withSums, messageOf, typeOf, lengthOf, payloadOf, headed, sumsRight}
@@ -65,14 +66,14 @@ module _ (kind : ℕ) (payload : List ℕ) (fits : length payload ≤ 255) where
   scanned-m : (kind ≡ 0xA5 → ⊥) → (v : List ℕ) → events front (m ++ v) ≡ reported (record { good = true; bytes = m }) ∷ events front v
   scanned-m other v =
       rw (take-m v, drop-at m v (length payload + 6) (message-length kind payload))
-      at (cutting-harmless .scan-good (m ++ v) (length payload + 6) (good-m other v))
+      at (cutting-harmless .scanning running .scan-good (m ++ v) (length payload + 6) (good-m other v))
 
   passed-over-m : kind ≡ 0xA5 → (v : List ℕ) → events front (m ++ v) ≡ skipped ∷ events front (drop 1 m ++ v)
   passed-over-m same v =
       let o : opens (m ++ v) ≡ false = rw (opens-m v, eq-eqb kind 0xA5 same) in
       let l : length m ≡ length payload + 6 = message-length kind payload in
       rw (drop-append-le 1 m v (omega arith))
-      at (cutting-harmless .scan-skip (m ++ v) (rw length-append (omega arith)) (sym (front-skip (m ++ v) o)))
+      at (cutting-harmless .scanning running .scan-skip (m ++ v) (rw length-append (omega arith)) (sym (front-skip (m ++ v) o)))
 
   first-m : getD m 0 0 ≡ 0xA5
   unfolding messageOf

@@ -12,7 +12,9 @@ use lib.Seq.{getD-drop, drop-append-le, drop-cons, drop-drop, take-all}
 use borrow.Author.Tests.{eq-eqb, eqb-true, eqb-false}
 use Rattle.stream.specs.declared.Verdict.the-variants.{Skip}
 use Rattle.stream.specs.Seek.{beyond, seek}
+use Rattle.stream.specs.Silence.{End, upTo}
 use Rattle.stream.proofs.Bools.{or-neither}
+use Rattle.stream.proofs.Ends.{skip-up-to}
 use Rattle.stream.proofs.Seeks.{seek-starts, seek-skips, beyond-zero, beyond-beyond}
 use Rattle.message.specs.Front.{opens, front}
 use Rattle.message.specs.Skips.{anyA5, SkippedPart, RunAt}
@@ -24,7 +26,7 @@ module _ (s : List ℕ) where
   pub skips-none : (from : ℕ) → from ≤ length s → SkippedPart s from from
   skips-none from h =
       let z : from - from ≡ 0 = omega arith in
-      record { forward = omega arith; inside = h; sought = λ v. rw z (sym (beyond-zero (seek front (drop from s ++ v)))) }
+      record { forward = omega arith; inside = h; sought = λ e v. rw z (sym (beyond-zero (seek (upTo e front) (drop from s ++ v)))) }
 
   pub skips-on : {from i to : ℕ} → SkippedPart s from i → SkippedPart s i to → SkippedPart s from to
   skips-on {from} {i} {to} a b =
@@ -32,7 +34,7 @@ module _ (s : List ℕ) where
       record {
         forward = omega (arith, a .forward, b .forward);
         inside = b .inside;
-        sought = λ v. rw k at (a .sought v ∙ ap (beyond (i - from)) (b .sought v) ∙ beyond-beyond (i - from) (to - i) (seek front (drop to s ++ v)));
+        sought = λ e v. rw k at (a .sought e v ∙ ap (beyond (i - from)) (b .sought e v) ∙ beyond-beyond (i - from) (to - i) (seek (upTo e front) (drop to s ++ v)));
       }
 
   -- The same of a part that is all of the bytes.
@@ -47,12 +49,12 @@ module _ (s : List ℕ) where
       record {
         forward = omega arith;
         inside = omega arith;
-        sought = λ v.
+        sought = λ e v.
             let w = drop i s ++ v in
             let l : 0 < length w = rw (length-append, length-drop) (omega arith) in
             let d : drop (0 + 1) w ≡ drop (i + 1) s ++ v = rw (drop-append-le 1 (drop i s) v (rw length-drop (omega arith)), drop-drop) in
             let k : i + 1 - i ≡ 0 + 1 = omega arith in
-            rw (k, ← d) (seek-skips front w 0 Skip (front-skip w (no-opening v)) l refl (seek-starts front w));
+            rw (k, ← d) (seek-skips (upTo e front) w 0 Skip (sym (skip-up-to front e w (sym (front-skip w (no-opening v))))) l refl (seek-starts (upTo e front) w));
       }
 
   byte : (i k : ℕ) (v : List ℕ) → i + k < length s → getD (drop i s ++ v) k 0 ≡ getD s (i + k) 0
@@ -138,13 +140,14 @@ run-block s from i h found is e run =
 
 -- ---- a seek that goes on behind them
 
-pub seek-passes : (s v : List ℕ) (at to : ℕ) → SkippedPart s at to → seek front (s ++ v) ≡ beyond at (seek front (drop at (s ++ v)))
-    → seek front (s ++ v) ≡ beyond to (seek front (drop to (s ++ v)))
-seek-passes s v at to k inv =
+pub seek-passes : (e : End) (s v : List ℕ) (at to : ℕ) → SkippedPart s at to → seek (upTo e front) (s ++ v) ≡ beyond at (seek (upTo e front) (drop at (s ++ v)))
+    → seek (upTo e front) (s ++ v) ≡ beyond to (seek (upTo e front) (drop to (s ++ v)))
+seek-passes e s v at to k inv =
     let a : drop at (s ++ v) ≡ drop at s ++ v = drop-append-le at s v (omega (arith, k .forward, k .inside)) in
     let b : drop to (s ++ v) ≡ drop to s ++ v = drop-append-le to s v (k .inside) in
     let n : at + (to - at) ≡ to = omega (arith, k .forward) in
-    rw (n, ← b) at (rw a at inv ∙ ap (beyond at) (k .sought v) ∙ beyond-beyond at (to - at) (seek front (drop to s ++ v)))
+    rw (n, ← b) at (rw a at inv ∙ ap (beyond at) (k .sought e v) ∙ beyond-beyond at (to - at) (seek (upTo e front) (drop to s ++ v)))
 
-pub seek-passes-here : (s : List ℕ) (at to : ℕ) → SkippedPart s at to → seek front s ≡ beyond at (seek front (drop at s)) → seek front s ≡ beyond to (seek front (drop to s))
-seek-passes-here s at to k inv = rw append-nil at (seek-passes s [] at to k (rw append-nil inv))
+pub seek-passes-here : (e : End) (s : List ℕ) (at to : ℕ) → SkippedPart s at to → seek (upTo e front) s ≡ beyond at (seek (upTo e front) (drop at s))
+    → seek (upTo e front) s ≡ beyond to (seek (upTo e front) (drop to s))
+seek-passes-here e s at to k inv = rw append-nil at (seek-passes e s [] at to k (rw append-nil inv))

@@ -12,9 +12,10 @@ use Rattle.stream.specs.declared.Verdict.the-variants.{Skip, Undecided, Whole}
 use Rattle.stream.specs.declared.Sought.the-variants.{Starved}
 use Rattle.stream.specs.Scan.{Event, skipped, eventsOn, eventsPast, events, messages}
 use Rattle.stream.specs.Seek.{afterSkip, seek}
+use Rattle.stream.specs.Silence.{running}
 use Rattle.stream.specs.Cutting.{skips}
-use Rattle.stream.proofs.Cuts.{starved-is}
 use Rattle.stream.proofs.Framings.{IsWhole}
+use Rattle.stream.proofs.Scans.{starved-is}
 use Rattle.message.specs.Message.{typeOf, sumsRight}
 use Rattle.message.specs.Front.{startsWithA5, opens, front}
 use Rattle.message.specs.Theorems.{NoneOfType, StrayA5}
@@ -28,7 +29,7 @@ front-stray : (u : List ℕ) → startsWithA5 u ≡ true → front (0xA5 ∷ 0xA
 front-stray u e = sym (front-skip (0xA5 ∷ 0xA5 ∷ u) (rw e))
 
 events-stray : (u : List ℕ) → startsWithA5 u ≡ true → events front (0xA5 ∷ 0xA5 ∷ u) ≡ skipped ∷ events front (0xA5 ∷ u)
-events-stray u e = cutting-harmless .scan-skip (0xA5 ∷ 0xA5 ∷ u) (omega arith) (front-stray u e)
+events-stray u e = cutting-harmless .scanning running .scan-skip (0xA5 ∷ 0xA5 ∷ u) (omega arith) (front-stray u e)
 
 seek-stray : (u : List ℕ) → startsWithA5 u ≡ true → seek front (0xA5 ∷ 0xA5 ∷ u) ≡ afterSkip (seek front (0xA5 ∷ u))
 unfolding seek
@@ -84,13 +85,13 @@ skips-something : (w : List ℕ) → typeOf w ≡ 0xA5 → events front w ≡ []
 skips-something [] e none = let z : _≡_ {A = ℕ} 0 0xA5 = e in absurd (omega arith)
 skips-something (x ∷ w) e none =
     let s : events front (x ∷ w) ≡ skipped ∷ events front w =
-    cutting-harmless .scan-skip (x ∷ w) (omega arith) (sym (front-skip (x ∷ w) (third-skips (x ∷ w) e))) in
+    cutting-harmless .scanning running .scan-skip (x ∷ w) (omega arith) (sym (front-skip (x ∷ w) (third-skips (x ∷ w) e))) in
     let l : length (events front (x ∷ w)) ≡ length (skipped ∷ events front w) = ap length s in
     let n : length (events front (x ∷ w)) ≡ 0 = ap length none in
     absurd (omega arith)
 
 held-type : (u : List ℕ) (k : ℕ) → seek front u ≡ Starved k → typeOf (drop k u) ≡ 0xA5 → ⊥
-held-type u k e same = skips-something (drop k u) same (starved-is cutting-harmless u k e .ends)
+held-type u k e same = skips-something (drop k u) same (starved-is (cutting-harmless .scanning running) u k e .ends)
 
 pub stray-a5 : StrayA5
 unfolding front

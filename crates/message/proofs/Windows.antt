@@ -10,6 +10,7 @@ use Rattle.stream.specs.declared.Sought.{Sought}
 use Rattle.stream.specs.declared.Sought.the-variants.{Starved, Found}
 use Rattle.stream.specs.declared.Verdict.{Verdict}
 use Rattle.stream.specs.Seek.{beyond, seek}
+use Rattle.stream.specs.Silence.{End, upTo}
 use Rattle.message.specs.declared.header.Opening.{Opening}
 use Rattle.message.specs.declared.header.Opening.the-variants.{Complete}
 use Rattle.message.specs.Front.{front}
@@ -75,27 +76,31 @@ module _ (held chunk : List ℕ) where
       let l : length (held ++ chunk) ≡ length held + length chunk = length-append held chunk in
       omega arith
 
+  pub held-within : (at : ℕ) → at < length held → at < length (held ++ chunk)
+  held-within at h = rw length-append (omega arith)
+
   -- The seek that goes on in the chunk.
-  pub seek-chunk : (at : ℕ) (r : Sought) → at ≤ length held → length held ≤ at → seek front (held ++ chunk) ≡ beyond at (seek front (drop at (held ++ chunk)))
-      → r ≡ beyond (length held) (seek front chunk) → r ≡ seek front (held ++ chunk)
-  seek-chunk at r h k inv e =
+  pub seek-chunk : (e : End) (at : ℕ) (r : Sought) → at ≤ length held → length held ≤ at
+      → seek (upTo e front) (held ++ chunk) ≡ beyond at (seek (upTo e front) (drop at (held ++ chunk)))
+      → r ≡ beyond (length held) (seek (upTo e front) chunk) → r ≡ seek (upTo e front) (held ++ chunk)
+  seek-chunk end at r h k inv e =
       let q : at ≡ length held = omega arith in
       e ∙ sym (rw (q, drop-append-seam held chunk) at inv)
 
 -- ---- the seek of a chunk, seen from the bytes before it
 
-module _ (before : ℕ) (chunk : List ℕ) (s : Sought) (is : s ≡ seek front chunk) where
-  pub beyond-starved : (k : ℕ) → s ≡ Starved k → Starved (before + k) ≡ beyond before (seek front chunk)
+module _ (before : ℕ) (end : End) (chunk : List ℕ) (s : Sought) (is : s ≡ seek (upTo end front) chunk) where
+  pub beyond-starved : (k : ℕ) → s ≡ Starved k → Starved (before + k) ≡ beyond before (seek (upTo end front) chunk)
   beyond-starved k e = ap (beyond before) (sym e ∙ is)
 
-  pub beyond-found : (k n : ℕ) (good : Bool) → s ≡ Found k n good → Found (before + k) n good ≡ beyond before (seek front chunk)
+  pub beyond-found : (k n : ℕ) (good : Bool) → s ≡ Found k n good → Found (before + k) n good ≡ beyond before (seek (upTo end front) chunk)
   beyond-found k n good e = ap (beyond before) (sym e ∙ is)
 
 -- ---- the first `held` of some bytes, and all of them where there are fewer
 
-module _ (bytes chunk : List ℕ) (held : ℕ) (r : Sought) where
-  pub seek-all-held : length bytes < held → r ≡ seek front (bytes ++ chunk) → r ≡ seek front (take held bytes ++ chunk)
+module _ (end : End) (bytes chunk : List ℕ) (held : ℕ) (r : Sought) where
+  pub seek-all-held : length bytes < held → r ≡ seek (upTo end front) (bytes ++ chunk) → r ≡ seek (upTo end front) (take held bytes ++ chunk)
   seek-all-held h e = rw (take-all held bytes (omega arith)) e
 
-  pub seek-first-held : r ≡ seek front (take (held - 0) (drop 0 bytes) ++ chunk) → r ≡ seek front (take held bytes ++ chunk)
+  pub seek-first-held : r ≡ seek (upTo end front) (take (held - 0) (drop 0 bytes) ++ chunk) → r ≡ seek (upTo end front) (take held bytes ++ chunk)
   seek-first-held e = let k : held - 0 ≡ held = omega arith in rw k at e

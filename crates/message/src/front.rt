@@ -3,6 +3,7 @@ ghost use mathlib.Core.Path.{_≡_};
 ghost use Prim.Native.Nat.{_+_, _≤_};
 ghost use lib.ListN.{length, take, drop};
 ghost use Rattle.stream.specs.Seek.{seek};
+ghost use Rattle.stream.specs.Silence.{endOf, upTo};
 ghost use Rattle.message.specs.Message.{sumsRight};
 ghost use Rattle.message.specs.Front.{front};
 use crate::fletcher::Sums;
@@ -41,9 +42,9 @@ pub fn front_at(s: &[u8], at: usize) -> Verdict
     }
 }
 
-// Where the seek through `s` ends.
-pub fn seek(s: &[u8]) -> Sought
-    ensures { λ r. ⌜ r ≡ seek front (now (s .entry)) ⌝ }
+// Where the seek through `s` ends. Where a mark ends the bytes (`ended`), none is waited for: what is undecided is skipped.
+pub fn seek(s: &[u8], ended: bool) -> Sought
+    ensures { λ r. ⌜ r ≡ seek (upTo (endOf ended) front) (now (s .entry)) ⌝ }
 {
     let mut at = 0;
     loop {
@@ -52,7 +53,14 @@ pub fn seek(s: &[u8]) -> Sought
                 at = past_skips(s, at + 1);
             }
             Verdict::Undecided => {
-                return Sought::Starved(at);
+                if ended {
+                    if s.len() <= at {
+                        return Sought::Starved(at);
+                    }
+                    at += 1;
+                } else {
+                    return Sought::Starved(at);
+                }
             }
             Verdict::Whole(n, good) => {
                 return Sought::Found(at, n, good);

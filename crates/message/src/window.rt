@@ -4,6 +4,7 @@ ghost use mathlib.Core.List.{_++_};
 ghost use Prim.Native.Nat.{_+_, _-_, _≤_, _<_};
 ghost use lib.ListN.{length, take, drop};
 ghost use Rattle.stream.specs.Seek.{beyond, seek};
+ghost use Rattle.stream.specs.Silence.{endOf, upTo};
 ghost use Rattle.message.specs.Fletcher.{sums};
 ghost use Rattle.message.specs.Message.{sumsRight};
 ghost use Rattle.message.specs.Front.{front};
@@ -60,19 +61,19 @@ pub fn front_over(held: &[u8], chunk: &[u8], at: usize) -> Verdict
 }
 
 // Where the seek through `chunk` ends, as a place of some `before` bytes and then `chunk`.
-fn seek_after(before: usize, chunk: &[u8]) -> Sought
+fn seek_after(before: usize, chunk: &[u8], ended: bool) -> Sought
     requires { ⌜ before + length (now chunk) < 18446744073709551616 ⌝ }
-    ensures { λ r. ⌜ r ≡ beyond before (seek front (now (chunk .entry))) ⌝ }
+    ensures { λ r. ⌜ r ≡ beyond before (seek (upTo (endOf ended) front) (now (chunk .entry))) ⌝ }
 {
-    match seek(chunk) {
+    match seek(chunk, ended) {
         Sought::Starved(k) => Sought::Starved(before + k),
         Sought::Found(k, n, good) => Sought::Found(before + k, n, good),
     }
 }
 
-// Where the seek through `held` and then `chunk` ends.
-pub fn seek_over(held: &[u8], chunk: &[u8]) -> Sought
-    ensures { λ r. ⌜ r ≡ seek front (now (held .entry) ++ now (chunk .entry)) ⌝ }
+// Where the seek through `held` and then `chunk` ends, with a mark behind them (`ended`) or without.
+pub fn seek_over(held: &[u8], chunk: &[u8], ended: bool) -> Sought
+    ensures { λ r. ⌜ r ≡ seek (upTo (endOf ended) front) (now (held .entry) ++ now (chunk .entry)) ⌝ }
 {
     let h = held.len();
     let mut at = 0;
@@ -82,22 +83,26 @@ pub fn seek_over(held: &[u8], chunk: &[u8]) -> Sought
                 at = past_skips(held, at + 1);
             }
             Verdict::Undecided => {
-                return Sought::Starved(at);
+                if ended {
+                    at += 1;
+                } else {
+                    return Sought::Starved(at);
+                }
             }
             Verdict::Whole(n, good) => {
                 return Sought::Found(at, n, good);
             }
         }
     }
-    seek_after(h, chunk)
+    seek_after(h, chunk, ended)
 }
 
-// Where the seek ends through the first `held` of `bytes`, all of them where there are fewer, and then `chunk`.
-pub fn seek_held(bytes: &[u8], held: usize, chunk: &[u8]) -> Sought
-    ensures { λ r. ⌜ r ≡ seek front (take held (now (bytes .entry)) ++ now (chunk .entry)) ⌝ }
+// Where it ends through the first `held` of `bytes`, all of them where there are fewer, and then `chunk`.
+pub fn seek_held(bytes: &[u8], held: usize, chunk: &[u8], ended: bool) -> Sought
+    ensures { λ r. ⌜ r ≡ seek (upTo (endOf ended) front) (take held (now (bytes .entry)) ++ now (chunk .entry)) ⌝ }
 {
     if bytes.len() < held {
-        return seek_over(bytes, chunk);
+        return seek_over(bytes, chunk, ended);
     }
-    seek_over(&bytes[0..held], chunk)
+    seek_over(&bytes[0..held], chunk, ended)
 }

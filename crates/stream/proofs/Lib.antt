@@ -1,6 +1,10 @@
 pub mod Bools
 pub mod Cuts
+pub mod Drains
+pub mod Ends
 pub mod Events
 pub mod Framings
 pub mod Rests
+pub mod Scans
 pub mod Seeks
+pub mod Streams

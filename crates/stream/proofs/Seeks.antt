@@ -101,7 +101,7 @@ module _ {front : List ℕ → Verdict} {mostHeld peek : ℕ} (F : Framing front
 
   -- The sizes of a found message, and that it is longer than what tells a skip.
   pub record Seen (u : List ℕ) (k n : ℕ) : Type 0 where
-    pub sized : Sized front mostHeld u k n
+    pub sized : Sized mostHeld u k n
     pub enough : peek ≤ n
 
   pub found-seen : (u : List ℕ) (k n : ℕ) (good : Bool) → seek front u ≡ Found k n good → Seen u k n

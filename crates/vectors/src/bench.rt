@@ -2,11 +2,13 @@
 ghost use Prim.Native.Nat.{_≤_};
 use crate::output::Output;
 use crate::text;
+use crate::text::MOST;
 use board::Board;
 use board::Fed;
 use board::Port;
 use board::Started;
 use board::StartedInPlace;
+use board::Stepped;
 use command::Settings;
 
 // The page has the first `length` of the bytes, so that it can be one of more than 64 bytes too.
@@ -22,7 +24,7 @@ pub struct Told {
     pub out: Output,
 }
 
-// What a feed answers, and the bench after it.
+// What a feed or a silence answers, and the bench after it.
 pub struct FeedStep {
     pub fed: Fed,
     pub bench: Bench,
@@ -91,13 +93,73 @@ impl Bench {
 
     // Feeds a chunk to a port as if `room` ended after `n` bytes.
     pub(crate) fn feed(self, port: u8, chunk: &[u8], room: &mut [u8], n: usize) -> FeedStep {
+        self.call(port, false, chunk, room, n)
+    }
+
+    // Says that a port's line has gone quiet, with such a room.
+    pub(crate) fn silence(self, port: u8, room: &mut [u8], n: usize) -> FeedStep {
+        self.call(port, true, b"", room, n)
+    }
+
+    // A feed, or with `quiet` a silence.
+    fn call(self, port: u8, quiet: bool, chunk: &[u8], room: &mut [u8], n: usize) -> FeedStep {
         let mut bytes = self.bytes;
         let board = self.board;
         let length = self.length;
-        let fed = feed_parts(port, board, chunk, room, n, &mut bytes, length);
+        let fed = call_parts(port, board, quiet, chunk, room, n, &mut bytes, length);
         let after = fed.board;
         let bench = Bench::on(after, bytes, length);
         FeedStep { fed, bench }
+    }
+
+    // Whether a call in place answers and leaves what the call by value did, which gave `step` and left `room`.
+    pub(crate) fn agrees_in_place(
+        self,
+        port: u8,
+        quiet: bool,
+        chunk: &[u8],
+        step: FeedStep,
+        room: &[u8],
+    ) -> bool {
+        let named = self.port(port);
+        let mut array = named.bytes;
+        let mut replies = [0xEEu8; MOST];
+        let mut page = self.bytes;
+        let n = room.len();
+        let s = self.call_in_place(port, quiet, chunk, &mut array, &mut replies, n, &mut page);
+        let after = step.bench;
+        let left = after.port(port);
+        same_answer(s, step.fed, left.held)
+            && text::same(&array, &left.bytes)
+            && text::same(text::prefix(&replies, n), room)
+            && text::same(&page, &after.bytes)
+    }
+
+    // A call in place, with a room that ends after `n` bytes. A silence that is given no chunk has a call of its own.
+    fn call_in_place(
+        self,
+        port: u8,
+        quiet: bool,
+        chunk: &[u8],
+        bytes: &mut [u8],
+        room: &mut [u8],
+        n: usize,
+        page: &mut [u8],
+    ) -> Stepped {
+        let board = self.board;
+        let w = board.settings;
+        let one = board.first;
+        let two = board.second;
+        let first = one.held;
+        let second = two.held;
+        let r = within(n, room.len());
+        let p = within(self.length, page.len());
+        let replies = &mut room[0..r];
+        let saved = &mut page[0..p];
+        if quiet && chunk.len() == 0 {
+            return board::silence_in_place(port, bytes, first, second, w, replies, saved);
+        }
+        board::call_in_place(port, bytes, first, second, w, quiet, chunk, replies, saved)
     }
 
     // Feeds a message to a port as if it held nothing. Both ports stay as they are: only the settings and the page go on.
@@ -136,10 +198,11 @@ impl Bench {
     }
 }
 
-// The same over a page that ends after `k` bytes.
-fn feed_parts(
+// A call with a room that ends after `n` bytes and a page that ends after `k`.
+fn call_parts(
     port: u8,
     board: Board,
+    quiet: bool,
     chunk: &[u8],
     room: &mut [u8],
     n: usize,
@@ -148,6 +211,9 @@ fn feed_parts(
 ) -> Fed {
     let r = within(n, room.len());
     let p = within(k, page.len());
+    if quiet {
+        return board::silence(port, board, &mut room[0..r], &mut page[0..p]);
+    }
     board::feed(port, board, chunk, &mut room[0..r], &mut page[0..p])
 }
 
@@ -169,6 +235,20 @@ fn within(n: usize, length: usize) -> usize
     ensures { λ r. ⌜ r ≤ length ⌝ }
 {
     if n < length { n } else { length }
+}
+
+fn same_answer(s: Stepped, fed: Fed, held: usize) -> bool {
+    let board = fed.board;
+    s.number == fed.number
+        && s.taken == fed.taken
+        && s.skipped == fed.skipped
+        && s.saved == fed.saved
+        && s.held == held
+        && same_settings(s.settings, board.settings)
+}
+
+pub(crate) fn same_settings(a: Settings, b: Settings) -> bool {
+    a.baud == b.baud && a.accelerometer == b.accelerometer && a.gyroscope == b.gyroscope
 }
 
 pub(crate) fn bad_line(bench: Bench, out: Output) -> Told {

@@ -1,6 +1,7 @@
-// The verbs on a board that is fed: feed, held, settings, port.
+// The verbs on a board that is fed: feed, silence, held, settings, port.
 use crate::bench;
 use crate::bench::Bench;
+use crate::bench::FeedStep;
 use crate::bench::Told;
 use crate::output::Output;
 use crate::streams;
@@ -17,6 +18,9 @@ pub(crate) fn outcome(verb: &[u8], args: &[u8], bench: Bench, out: Output) -> To
     if text::same(verb, b"feed") {
         return feed(args, bench, out);
     }
+    if text::same(verb, b"silence") {
+        return silence(args, bench, out);
+    }
     if text::same(verb, b"held") {
         return hold(args, bench, out);
     }
@@ -30,31 +34,71 @@ pub(crate) fn outcome(verb: &[u8], args: &[u8], bench: Bench, out: Output) -> To
     Told { bench, out: told }
 }
 
-fn feed(args: &[u8], bench: Bench, out: Output) -> Told {
-    let Octet::Value(port) = text::read_small(text::first_word(args)) else {
-        return bench::bad_line(bench, out);
+// A Ping, which a silence must not look at.
+const UNREAD: [u8; 8] = [0xA5, 0xA5, 0x01, 0x02, 0x02, 0x00, 0x4F, 0x25];
+
+// The port that a call names, and the length of its reply room.
+enum Target {
+    Value(u8, usize),
+    Bad,
+}
+
+fn read_target(port: &[u8], length: &[u8]) -> Target {
+    let Octet::Value(number) = text::read_small(port) else {
+        return Target::Bad;
     };
+    let Number::Value(n) = text::read_decimal(length) else {
+        return Target::Bad;
+    };
+    if n > MOST {
+        return Target::Bad;
+    }
+    Target::Value(number, n)
+}
+
+fn feed(args: &[u8], bench: Bench, out: Output) -> Told {
     let others = text::other_words(args);
-    let Number::Value(length) = text::read_decimal(text::first_word(others)) else {
+    let Target::Value(port, length) = read_target(text::first_word(args), text::first_word(others))
+    else {
         return bench::bad_line(bench, out);
     };
     let mut chunk = [0u8; MOST];
     let Number::Value(n) = text::read_bytes(text::other_words(others), &mut chunk) else {
         return bench::bad_line(bench, out);
     };
-    if length > MOST {
-        return bench::bad_line(bench, out);
-    }
+    let s = text::prefix(&chunk, n);
     let mut room = [0xEEu8; MOST];
-    let step = bench.feed(port, text::prefix(&chunk, n), &mut room, length);
-    let fed = step.fed;
+    let step = bench.feed(port, s, &mut room, length);
+    let replies = text::prefix(&room, length);
+    let same = bench.agrees_in_place(port, false, s, step, replies);
+    say_step(step, replies, same, bench, out)
+}
+
+fn silence(args: &[u8], bench: Bench, out: Output) -> Told {
+    let Target::Value(port, length) = read_target(text::first_word(args), text::other_words(args))
+    else {
+        return bench::bad_line(bench, out);
+    };
+    let mut room = [0xEEu8; MOST];
+    let step = bench.silence(port, &mut room, length);
+    let replies = text::prefix(&room, length);
+    let same = bench.agrees_in_place(port, true, b"", step, replies)
+        && bench.agrees_in_place(port, true, &UNREAD, step, replies);
+    say_step(step, replies, same, bench, out)
+}
+
+// Where the calls in place agree, nothing is said of them.
+fn say_step(step: FeedStep, room: &[u8], same: bool, before: Bench, out: Output) -> Told {
     let after = step.bench;
-    let told = say_fed(fed, out)
-        .text(b", room ")
-        .bytes(text::prefix(&room, length));
+    let answer = say_fed(step.fed, out).text(b", room ").bytes(room);
+    let told = after.say_page(before, answer);
     Told {
         bench: after,
-        out: after.say_page(bench, told),
+        out: if same {
+            told
+        } else {
+            told.text(b", in place differs")
+        },
     }
 }
 

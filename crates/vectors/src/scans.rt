@@ -1,4 +1,4 @@
-// The verbs on unread bytes: front, seek, split, cut.
+// The verbs on unread bytes: front, seek, drain, split, cut. A seek is `ended` where a silence mark stands behind its bytes.
 ghost use Prim.Native.Nat.{_≤_};
 use crate::commands;
 use crate::output::Output;
@@ -13,7 +13,10 @@ pub(crate) fn outcome(verb: &[u8], args: &[u8], out: Output) -> Output {
         return front(args, out);
     }
     if text::same(verb, b"seek") {
-        return seek(args, out);
+        return seek(args, false, out);
+    }
+    if text::same(verb, b"drain") {
+        return seek(args, true, out);
     }
     if text::same(verb, b"split") {
         return split(args, out);
@@ -60,12 +63,12 @@ fn say_sought(s: Sought, out: Output) -> Output {
     }
 }
 
-fn seek(args: &[u8], out: Output) -> Output {
+fn seek(args: &[u8], ended: bool, out: Output) -> Output {
     let mut room = [0u8; MOST];
     let Number::Value(n) = text::read_bytes(args, &mut room) else {
         return out.bad_line();
     };
-    say_sought(message::seek(text::prefix(&room, n)), out)
+    say_sought(message::seek(text::prefix(&room, n), ended), out)
 }
 
 fn split(args: &[u8], out: Output) -> Output {
@@ -85,7 +88,7 @@ fn say_split(held: &[u8], chunk: &[u8], out: Output) -> Output {
     copy(held, &mut room, 0);
     copy(chunk, &mut room, held.len());
     let s = text::prefix(&room, held.len() + chunk.len());
-    let told = say_sought(message::seek(s), out);
+    let told = say_sought(message::seek(s, false), out);
     if agree(s, held, chunk) {
         return told.text(b", same");
     }
@@ -102,7 +105,7 @@ fn cut(args: &[u8], out: Output) -> Output {
 
 // Ends at the first cut that changes an answer.
 fn say_cuts(s: &[u8], out: Output) -> Output {
-    let told = say_sought(message::seek(s), out);
+    let told = say_sought(message::seek(s, false), out);
     let last = last_cut(s);
     let mut k = 0;
     while k <= last {
@@ -132,7 +135,9 @@ fn agree_at(s: &[u8], k: usize) -> bool {
 
 // Whether every call answers of `held` and `chunk` as it does of `s`, the two in one.
 fn agree(s: &[u8], held: &[u8], chunk: &[u8]) -> bool {
-    fronts_agree(s, held, chunk) && seeks_agree(s, held, chunk)
+    fronts_agree(s, held, chunk)
+        && seeks_agree(s, held, chunk, false)
+        && seeks_agree(s, held, chunk, true)
 }
 
 // At every place, the end, and one past the end.
@@ -150,13 +155,13 @@ fn fronts_agree(s: &[u8], held: &[u8], chunk: &[u8]) -> bool {
 }
 
 // In an array, the held bytes are followed by others, which must not matter.
-fn seeks_agree(s: &[u8], held: &[u8], chunk: &[u8]) -> bool {
+fn seeks_agree(s: &[u8], held: &[u8], chunk: &[u8], ended: bool) -> bool {
     let n = held.len();
     let mut array = [0xEEu8; MOST + 3];
     copy(held, &mut array, 0);
-    let one = message::seek(s);
-    let over = message::seek_over(held, chunk);
-    let kept = message::seek_held(text::prefix(&array, n + 3), n, chunk);
+    let one = message::seek(s, ended);
+    let over = message::seek_over(held, chunk, ended);
+    let kept = message::seek_held(text::prefix(&array, n + 3), n, chunk, ended);
     same_sought(one, over) && same_sought(one, kept)
 }
 

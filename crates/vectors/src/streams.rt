@@ -1,4 +1,5 @@
 // The verb `stream`: the same bytes in pieces of several sizes, to either port alone and to both in turn.
+use crate::bench;
 use crate::bench::Bench;
 use crate::listings;
 use crate::output::Output;
@@ -7,7 +8,6 @@ use crate::text::MOST;
 use crate::text::Number;
 use board::Fed;
 use board::Port;
-use command::Settings;
 
 // A feed reports a message, of which there are no more than bytes, or uses up a piece.
 const TURNS: usize = 2 * MOST + 2;
@@ -168,16 +168,12 @@ fn all_agree(run: Run, port: u8, track: Track, after: Bench) -> bool {
     let t = run.track(port);
     counts_agree(run, port, track, after.port(0))
         && t.replies == track.replies
-        && same_settings(board.settings, other.settings)
+        && bench::same_settings(board.settings, other.settings)
         && bench.same_page(after)
 }
 
 fn same_port(a: Port, b: Port) -> bool {
     a.held == b.held && text::same(&a.bytes, &b.bytes)
-}
-
-fn same_settings(a: Settings, b: Settings) -> bool {
-    a.baud == b.baud && a.accelerometer == b.accelerometer && a.gyroscope == b.gyroscope
 }
 
 // Feeds the stream to each port in pieces of its size, the ports in turn.

@@ -1,5 +1,5 @@
 -- `board::feeding::step_found` meets its contract.
-use Rattle.board.proofs.Places.{found-at, found-in, found-some, found-step}
+use Rattle.board.proofs.Places.{found-at, found-step}
 use native.Mathlib.Omega.{arith}
 use borrow.Author.Needs.{needs}
 use Rattle.board.proofs.feeding.step_found.Statement.{statement}
@@ -14,10 +14,8 @@ keep-after-requires c κs = search needs
 reported-requires : tie.Need-reported-requires
 reported-requires c κs =
     let start = c .before .before .before .before .before .before .before .before .before .before .before .before .before .before .before .before in
-    let a = start .args in
     let p = start .pre in
-    let f = found-in (a .bytes .now) (a .chunk .now) (a .held) (p .0 .0) (p .0 .1) (a .k) (a .n) (a .good) (p .1) in
-    (omega (arith, f, p .0 .0, start .good, start .fits), search (found-some, needs))
+    (omega (arith, p, start .good, start .fits), p .1 .0)
 
 same-length : tie.Need-same-length
 same-length c = search needs
@@ -33,7 +31,7 @@ returns c =
     let start = c .before .before .before .before .before .before .before .before .before .before .before .before .before .before .before .before .before in
     let a = start .args in
     let p = start .pre in
-    search (found-step (a .bytes .now) (a .chunk .now) (a .held) (p .0 .0) (p .0 .1) (a .k) (a .n) (a .good) (p .1), needs)
+    search (found-step (a .bytes .now) (a .chunk .now) (a .held) (p .0 .0) (p .0 .1) (a .k) (a .n) (a .good) (p .1 .0) (p .1 .1) (p .1 .2), needs)
 
 pub step-found-spec : {M : Type 1} → statement M
 step-found-spec =

@@ -5,7 +5,9 @@ use Prim.Native.Nat.{_-_, _<_, _≤_}
 use mathlib.Core.Path.{_≡_}
 use lib.ListN.{length, drop}
 use Rattle.stream.specs.Seek.{beyond, seek}
-use Rattle.stream.proofs.Seeks.{seek-starts, seek-skips, seek-starves, seek-finds}
+use Rattle.stream.specs.Silence.{endOf, upTo}
+use Rattle.stream.proofs.Ends.{nothing-left, skip-passed, message-found, undecided-passed, undecided-stops}
+use Rattle.stream.proofs.Seeks.{seek-starts}
 use Rattle.message.specs.Front.{front}
 use Rattle.message.proofs.Fronts.{skip-there, whole-there}
 use Rattle.message.proofs.Skipped.{seek-passes-here}
@@ -13,13 +15,13 @@ use Rattle.message.proofs.front.seek.Statement.{statement}
 use Rattle.message.proofs.front.seek.Tie as tie
 
 abbrev Inv-loop : tie.InvT-loop
-Inv-loop s at₀ at = (at ≤ length s) × (seek front s ≡ beyond at (seek front (drop at s)))
+Inv-loop s ended at₀ at = (at ≤ length s) × (seek (upTo (endOf ended) front) s ≡ beyond at (seek (upTo (endOf ended) front) (drop at s)))
 
 abbrev μ-loop : tie.MeasureT-loop
-μ-loop s at₀ at = length s - at
+μ-loop s ended at₀ at = length s - at
 
 loop-holds : tie.Need-loop-holds Inv-loop μ-loop
-loop-holds c = (omega arith, seek-starts front _)
+loop-holds c = (omega arith, seek-starts _ _)
 
 front-at-requires : tie.Need-front-at-requires Inv-loop μ-loop
 front-at-requires c κs = search needs
@@ -40,19 +42,31 @@ loop-less : tie.Need-loop-less Inv-loop μ-loop
 loop-less c = search needs
 
 loop-again : tie.Need-loop-again Inv-loop μ-loop
-loop-again c = (search needs, search (seek-passes-here, seek-skips, skip-there, needs))
+loop-again c = (search needs, search (seek-passes-here, skip-passed, skip-there, needs))
 
 enum-told-2 : tie.Need-enum-told-2 Inv-loop μ-loop
 enum-told-2 c = search needs
 
 returns : tie.Need-returns Inv-loop μ-loop
-returns c = search (seek-starves, needs)
+returns c = search (nothing-left, needs)
+
+add-at : tie.Need-add-at Inv-loop μ-loop
+add-at c = search needs
+
+loop-less-2 : tie.Need-loop-less-2 Inv-loop μ-loop
+loop-less-2 c = search needs
+
+loop-again-2 : tie.Need-loop-again-2 Inv-loop μ-loop
+loop-again-2 c = (search needs, search (undecided-passed, needs))
+
+returns-2 : tie.Need-returns-2 Inv-loop μ-loop
+returns-2 c = search (undecided-stops, needs)
 
 enum-known-n : tie.Need-enum-known-n Inv-loop μ-loop
 enum-known-n c = search needs
 
-returns-2 : tie.Need-returns-2 Inv-loop μ-loop
-returns-2 c = search (seek-finds, whole-there, needs)
+returns-3 : tie.Need-returns-3 Inv-loop μ-loop
+returns-3 c = search (message-found, whole-there, needs)
 
 pub seek-spec : {M : Type 1} → statement M
 seek-spec =
@@ -69,5 +83,9 @@ seek-spec =
     loop-again
     enum-told-2
     returns
+    add-at
+    loop-less-2
+    loop-again-2
+    returns-2
     enum-known-n
-    returns-2)
+    returns-3)

@@ -15,16 +15,16 @@ seek-requires c κs = search needs
 enum-known-k : tie.Need-enum-known-k
 enum-known-k c = search needs
 
-add-t9 : tie.Need-add-t9
-add-t9 c =
+add-t10 : tie.Need-add-t10
+add-t10 c =
     let h : c .before .k .given .0 .0 ≤ length (c .before .before .before .before .before .args .chunk .now) = search (starved-within, needs) in
     omega arith
 
 enum-known-k-2 : tie.Need-enum-known-k-2
 enum-known-k-2 c = search needs
 
-add-t10 : tie.Need-add-t10
-add-t10 c =
+add-t11 : tie.Need-add-t11
+add-t11 c =
     let h : c .before .k2 .given .0 .0 + c .before .k2 .given .0 .1 .0 ≤ length (c .before .before .before .before .before .args .chunk .now) = search (found-within, needs) in
     omega arith
 
@@ -36,4 +36,4 @@ returns-2 c = search (beyond-found, needs)
 
 pub seek-after-spec : {M : Type 1} → statement M
 seek-after-spec =
-    tie.close (tie.spec seek-requires enum-known-k add-t9 enum-known-k-2 add-t10 returns returns-2)
+    tie.close (tie.spec seek-requires enum-known-k add-t10 enum-known-k-2 add-t11 returns returns-2)

@@ -6,22 +6,25 @@ use mathlib.Core.Path.{_≡_}
 use mathlib.Core.List.{_++_}
 use lib.ListN.{length, drop}
 use Rattle.stream.specs.Seek.{beyond, seek}
-use Rattle.stream.proofs.Seeks.{seek-starts, seek-skips, seek-starves, seek-finds}
+use Rattle.stream.specs.Silence.{endOf, upTo}
+use Rattle.stream.proofs.Ends.{skip-passed, message-found, undecided-passed, undecided-stops}
+use Rattle.stream.proofs.Seeks.{seek-starts}
 use Rattle.message.specs.Front.{front}
 use Rattle.message.proofs.Fronts.{skip-there, whole-there}
-use Rattle.message.proofs.Windows.{seek-chunk}
+use Rattle.message.proofs.Windows.{held-within, seek-chunk}
 use Rattle.message.proofs.Skipped.{seek-passes}
 use Rattle.message.proofs.window.seek_over.Statement.{statement}
 use Rattle.message.proofs.window.seek_over.Tie as tie
 
 abbrev Inv-loop : tie.InvT-loop
-Inv-loop held chunk h at₀ at = (at ≤ length held) × (seek front (held ++ chunk) ≡ beyond at (seek front (drop at (held ++ chunk))))
+Inv-loop held chunk ended h at₀ at =
+    (at ≤ length held) × (seek (upTo (endOf ended) front) (held ++ chunk) ≡ beyond at (seek (upTo (endOf ended) front) (drop at (held ++ chunk))))
 
 abbrev μ-loop : tie.MeasureT-loop
-μ-loop held chunk h at₀ at = length held - at
+μ-loop held chunk ended h at₀ at = length held - at
 
 loop-holds : tie.Need-loop-holds Inv-loop μ-loop
-loop-holds c = (omega arith, seek-starts front _)
+loop-holds c = (omega arith, seek-starts _ _)
 
 front-over-requires : tie.Need-front-over-requires Inv-loop μ-loop
 front-over-requires c κs = search needs
@@ -39,19 +42,28 @@ loop-less : tie.Need-loop-less Inv-loop μ-loop
 loop-less c = search needs
 
 loop-again : tie.Need-loop-again Inv-loop μ-loop
-loop-again c = (search needs, search (seek-passes, seek-skips, skip-there, needs))
+loop-again c = (search needs, search (seek-passes, skip-passed, skip-there, needs))
 
 enum-told-2 : tie.Need-enum-told-2 Inv-loop μ-loop
 enum-told-2 c = search needs
 
+add-at : tie.Need-add-at Inv-loop μ-loop
+add-at c = search needs
+
+loop-less-2 : tie.Need-loop-less-2 Inv-loop μ-loop
+loop-less-2 c = search needs
+
+loop-again-2 : tie.Need-loop-again-2 Inv-loop μ-loop
+loop-again-2 c = (search needs, search (undecided-passed, held-within, needs))
+
 returns : tie.Need-returns Inv-loop μ-loop
-returns c = search (seek-starves, needs)
+returns c = search (undecided-stops, needs)
 
 enum-known-n : tie.Need-enum-known-n Inv-loop μ-loop
 enum-known-n c = search needs
 
 returns-2 : tie.Need-returns-2 Inv-loop μ-loop
-returns-2 c = search (seek-finds, whole-there, needs)
+returns-2 c = search (message-found, whole-there, needs)
 
 seek-after-requires : tie.Need-seek-after-requires Inv-loop μ-loop
 seek-after-requires c κs = search needs
@@ -73,6 +85,9 @@ seek-over-spec =
     loop-less
     loop-again
     enum-told-2
+    add-at
+    loop-less-2
+    loop-again-2
     returns
     enum-known-n
     returns-2

@@ -1,8 +1,8 @@
--- `board::feeding::held_of` meets its contract.
+-- `board::calls::held_of` meets its contract.
 use Rattle.board.proofs.InPlace.{held-second}
 use borrow.Author.Needs.{needs}
-use Rattle.board.proofs.feeding.held_of.Statement.{statement}
-use Rattle.board.proofs.feeding.held_of.Tie as tie
+use Rattle.board.proofs.calls.held_of.Statement.{statement}
+use Rattle.board.proofs.calls.held_of.Tie as tie
 
 returns : tie.Need-returns
 returns c = search needs

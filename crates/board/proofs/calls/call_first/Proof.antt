@@ -1,10 +1,10 @@
--- `board::feeding::feed_first` meets its contract.
+-- `board::calls::call_first` meets its contract.
 use Rattle.board.proofs.Places.{fed-first}
 use Rattle.board.specs.Port.{heldBytes}
-use Rattle.board.specs.Feed.{stepOf}
+use Rattle.board.specs.Feed.{stepAt}
 use borrow.Author.Needs.{needs}
-use Rattle.board.proofs.feeding.feed_first.Statement.{statement}
-use Rattle.board.proofs.feeding.feed_first.Tie as tie
+use Rattle.board.proofs.calls.call_first.Statement.{statement}
+use Rattle.board.proofs.calls.call_first.Tie as tie
 
 step-port-requires : tie.Need-step-port-requires
 step-port-requires c κs = search needs
@@ -19,8 +19,8 @@ returns : tie.Need-returns
 returns c =
     let s = c .before .before .before .before .before .before .before .before .before .before .before .before .before .before .before .before .args in
     let t = c .before .before .before .before .before .before .before .before .step-port in
-    fed-first (s .t2) (stepOf (s .port) (heldBytes (s .t2 .first)) (s .t2 .settings) (s .chunk .now) (s .room .now) (s .page .now))
-    (t .result) (t .last .1 .0) (t .last .1 .1 .1 .1 .1 .0) (t .last .1 .1 .1 .1 .1 .1 .0) (search (t, needs))
+    fed-first (s .t2) (stepAt (s .port) (s .quiet) (heldBytes (s .t2 .first)) (s .t2 .settings) (s .chunk .now) (s .room .now) (s .page .now))
+    (t .result) (t .last .1 .0) (t .last .1 .1 .1 .1 .1 .1 .0) (t .last .1 .1 .1 .1 .1 .1 .1 .0) (search (t, needs))
 
-pub feed-first-spec : {M : Type 1} → statement M
-feed-first-spec = tie.close (tie.spec step-port-requires same-length same-length-2 returns)
+pub call-first-spec : {M : Type 1} → statement M
+call-first-spec = tie.close (tie.spec step-port-requires same-length same-length-2 returns)
