@@ -1,7 +1,8 @@
 /*
  * Ketphiroj's calls for C. Each call of the library is proved to answer exactly what its definition says, for every argument:
  * crates/capi/src has the contracts, crates/NAME/specs the definitions. Not proved is what is C itself: the declarations below,
- * and ketphiroj_start_board and ketphiroj_feed_board, which stand here whole and put what a proved call answers into the board.
+ * and the functions that stand here whole: ketphiroj_feed_in_place and ketphiroj_silence_in_place, which name the two uses of one proved
+ * call, and ketphiroj_start_board, ketphiroj_feed_board and ketphiroj_silence_board, which put what a proved call answers into the board.
  *
  * What a caller must see to, and nothing else:
  *   - a pointer with a length points to that many bytes, and is never NULL, not even with length 0;
@@ -26,7 +27,7 @@ extern "C" {
 enum {
     KETPHIROJ_PORT_ROOM = 260,       /* the most bytes that a port holds */
     KETPHIROJ_LONGEST_MESSAGE = 261,
-    KETPHIROJ_REPLY_ROOM = 166,      /* the longest reply, to a command of 16 fields, and the least room for a feed */
+    KETPHIROJ_REPLY_ROOM = 166,      /* the longest reply, to a command of 16 fields, and the least room for a feed or a silence */
     KETPHIROJ_PAGE_SIZE = 64,
     KETPHIROJ_NUMBERED = 0x7C,       /* the type of a numbered command, and of the reply to it */
     KETPHIROJ_DATA_SIZE = 34         /* a data message of an acceleration and a rate */
@@ -35,10 +36,10 @@ enum {
 /* The numbers that calls answer. Where more than one would fit, a call answers the first in its own list below. */
 enum {
     KETPHIROJ_DONE = 0,
-    KETPHIROJ_CHUNK_USED_UP = 1, /* nothing more to report */
+    KETPHIROJ_CHUNK_USED_UP = 1, /* nothing more to report; after a silence nothing is held */
     KETPHIROJ_BAD_PORT = 16,     /* not 0 or 1 */
     KETPHIROJ_BAD_BOARD = 17,    /* a port holds over 260 bytes, or a working value is none that this board works with */
-    KETPHIROJ_SHORT_ROOM = 18,   /* under 166 bytes for a feed, else shorter than what is to be written */
+    KETPHIROJ_SHORT_ROOM = 18,   /* under 166 bytes for a feed or a silence, else shorter than what is to be written */
     KETPHIROJ_PAGE_LENGTH = 19,  /* a page is not 64 bytes */
     KETPHIROJ_BAD_PAGE = 20,     /* a page is neither blank nor sound */
     KETPHIROJ_NOT_WHOLE = 21,    /* not one whole message */
@@ -54,8 +55,8 @@ enum {
 /* ---- the board: kept by the caller, and fed in place */
 
 /*
- * The first `held` bytes are unread. The others are 0 after a start, and after an accepted feed in the port that was fed; the
- * other port is as it came.
+ * The first `held` bytes are unread. The others are 0 after a start, and after an accepted feed or silence in the port that it was
+ * of; the other port is as it came.
  */
 typedef struct {
     uint8_t bytes[KETPHIROJ_PORT_ROOM];
@@ -106,15 +107,23 @@ typedef struct {
 ketphiroj_started_in_place ketphiroj_start_in_place(
     uint8_t *first, size_t first_length, uint8_t *second, size_t second_length, const uint8_t *page, size_t page_length);
 
-/* What a feed answers. The board is the caller's: `held` and `settings` are to be put back into it. */
+/* What a feed or a silence answers. The board is the caller's: `held` and `settings` are to be put back into it. */
 typedef struct {
-    size_t taken;   /* bytes taken from the chunk: feed again from there */
+    size_t taken;   /* bytes taken from the chunk: feed again from there; 0 after a silence */
     size_t skipped; /* bytes that the scan skipped */
     size_t held;    /* what the named port holds now */
     ketphiroj_settings settings; /* the working values now */
     uint8_t number;
     bool saved;     /* whether a save was accepted, of any field, or a fresh number was taken: the page was written */
 } ketphiroj_stepped;
+
+/*
+ * The proved call behind ketphiroj_feed_in_place, where `quiet` is false, and ketphiroj_silence_in_place, where it is true: the chunk is
+ * then not looked at, and none of it is taken.
+ */
+ketphiroj_stepped ketphiroj_call_in_place(
+    uint8_t port, uint8_t *bytes, size_t bytes_length, size_t first, size_t second, ketphiroj_settings settings, bool quiet,
+    const uint8_t *chunk, size_t chunk_length, uint8_t *room, size_t room_length, uint8_t *page, size_t page_length);
 
 /*
  * Feeds a chunk to port 0 or 1. `bytes` are the 260 bytes of the named port, which are written in place, `first` and `second`
@@ -141,19 +150,47 @@ typedef struct {
  * page keeps a number, port 0 answers functions 1, 3, 4 and 5 without a number with error 5; Ping and function 2 go on, and port 1
  * takes all of them. After 4294967295 no number is fresh until the page is erased.
  * So no number is accepted twice over one page, however often a board is started on it. For this to hold over a power cut the
- * driver must
+ * driver must, with feeds and with silences,
  *   - store the page where `saved`, and only then act on the answer: send the reply, and put the answered settings to use. A number
- *     that was answered and is not on the stored page would be accepted again after the cut. Where storing fails, send nothing and
- *     feed nothing more, but start again on the stored page;
- *   - lend a copy of the page in memory that a power cut clears, and not the stored page itself: while a feed writes the page, it is blank
- *     for a moment, and a blank page has no number;
+ *     that was answered and is not on the stored page would be accepted again after the cut. Where storing fails, send nothing, and
+ *     make no further feed or silence, but start again on the stored page;
+ *   - lend a copy of the page in memory that a power cut clears, and not the stored page itself: while a feed or a silence writes the page,
+ *     it is blank for a moment, and a blank page has no number;
  *   - store it whole or not at all: a page of which only a part was stored may keep a smaller number, or the next start refuses it;
  *   - start on the page that was stored last, never on an older copy, and let nobody else write or erase it. Where a start answers 20,
  *     the number is lost: a blank page in its place would let every number be accepted again, so that is for a person to decide.
  */
-ketphiroj_stepped ketphiroj_feed_in_place(
+static inline ketphiroj_stepped ketphiroj_feed_in_place(
     uint8_t port, uint8_t *bytes, size_t bytes_length, size_t first, size_t second, ketphiroj_settings settings,
-    const uint8_t *chunk, size_t chunk_length, uint8_t *room, size_t room_length, uint8_t *page, size_t page_length);
+    const uint8_t *chunk, size_t chunk_length, uint8_t *room, size_t room_length, uint8_t *page, size_t page_length)
+{
+    return ketphiroj_call_in_place(
+        port, bytes, bytes_length, first, second, settings, false, chunk, chunk_length, room, room_length, page, page_length);
+}
+
+/*
+ * Tells port 0 or 1 that its line is silent, which the driver knows: no more bytes of a message that has begun will come. A false
+ * header can claim 255 bytes, and a true command would wait behind it. The scan goes on over the held bytes; each time it would wait
+ * for more it skips the first of them instead, without a reply. It stops at the first message, or when nothing is held. Arguments as
+ * with ketphiroj_feed_in_place, without a chunk; nothing is taken.
+ * Before it everything that was received on that port is fed, until a feed answers 1. The rest of a chunk that is fed only after the
+ * silence counts as received after it: a message that begins before that rest and ends in it is lost.
+ * 0: a message was answered, as by a feed: its reply is at the front of `room`, and where `saved`, the page is to be stored before the
+ *    reply is sent. More may be held: call again.
+ * 1: nothing is held, and there is nothing more to report. Nothing was written to the room or the page.
+ * 16, 17, 18, 19, 20: refused, as a feed with these arguments. Nothing was written, and the held count and the settings are those given.
+ *
+ * A driver calls until the answer is 1 before it feeds that port again. A feed before that is taken, over the bytes that are left: a
+ * message may then begin before the silence and end after it. No number of a numbered command is accepted twice either way.
+ */
+static inline ketphiroj_stepped ketphiroj_silence_in_place(
+    uint8_t port, uint8_t *bytes, size_t bytes_length, size_t first, size_t second, ketphiroj_settings settings, uint8_t *room,
+    size_t room_length, uint8_t *page, size_t page_length)
+{
+    static const uint8_t no_chunk[1] = {0}; /* never NULL, not even with length 0 */
+    return ketphiroj_call_in_place(
+        port, bytes, bytes_length, first, second, settings, true, no_chunk, 0, room, room_length, page, page_length);
+}
 
 /*
  * Starts a board where it stands, whatever it holds: afterwards it is the one that ketphiroj_start answers, with the same number.
@@ -183,6 +220,22 @@ static inline ketphiroj_stepped ketphiroj_feed_board(
     ketphiroj_stepped answer = ketphiroj_feed_in_place(
         port, named->bytes, KETPHIROJ_PORT_ROOM, board->first.held, board->second.held, board->settings, chunk, chunk_length,
         room, room_length, page, page_length);
+    named->held = answer.held;
+    board->settings = answer.settings;
+    return answer;
+}
+
+/*
+ * Tells port 0 or 1 of a board that its line is silent: when it may be called, numbers and buffers as with ketphiroj_silence_in_place.
+ * What it writes, what it leaves alone and what of it is C is as with ketphiroj_feed_board.
+ */
+static inline ketphiroj_stepped ketphiroj_silence_board(
+    uint8_t port, ketphiroj_board *board, uint8_t *room, size_t room_length, uint8_t *page, size_t page_length)
+{
+    ketphiroj_port *named = port == 0 ? &board->first : &board->second;
+    ketphiroj_stepped answer = ketphiroj_silence_in_place(
+        port, named->bytes, KETPHIROJ_PORT_ROOM, board->first.held, board->second.held, board->settings, room, room_length, page,
+        page_length);
     named->held = answer.held;
     board->settings = answer.settings;
     return answer;

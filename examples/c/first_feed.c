@@ -1,12 +1,16 @@
 /*
  * A board on a blank page. On port 0 comes a stray A5, as when a cable is plugged in, and then a Ping in two parts. Then port 1 is
  * told to use 921600 baud and asked for the rate, and then given three settings in one command. The replies are read row by row,
- * as the controller reads them.
+ * as the controller reads them. At the end port 0 gets noise that looks as a header of 255 bytes, and a Ping and a save wait behind it
+ * until the line is silent.
  */
 #include "ketphiroj.h"
 
 #include <stdio.h>
 #include <string.h>
+
+/* The memory that outlives a power cut. */
+static uint8_t stored[KETPHIROJ_PAGE_SIZE];
 
 static uint8_t page[KETPHIROJ_PAGE_SIZE];
 static uint8_t room[KETPHIROJ_REPLY_ROOM];
@@ -17,17 +21,32 @@ static size_t reply_length(void) {
     return 6u + room[3];
 }
 
-/* Feeds a chunk to the board, and prints what was answered. */
-static void feed(uint8_t port, const uint8_t *chunk, size_t length) {
-    ketphiroj_stepped fed = ketphiroj_feed_board(port, &board, chunk, length, room, sizeof room, page, sizeof page);
-    printf("port %u: number %u, taken %zu, skipped %zu", port, fed.number, fed.taken, fed.skipped);
-    if (fed.number == KETPHIROJ_DONE) {
+/* Stores the page where it was written, and only then sends the reply: here, prints it. */
+static void store_and_send(uint8_t port, ketphiroj_stepped answer) {
+    if (answer.saved) {
+        memcpy(stored, page, sizeof stored);
+    }
+    printf("port %u: number %u, taken %zu, skipped %zu", port, answer.number, answer.taken, answer.skipped);
+    if (answer.number == KETPHIROJ_DONE) {
         printf(", reply");
         for (size_t i = 0; i < reply_length(); i++) {
             printf(" %02X", room[i]);
         }
     }
-    printf("\n");
+    printf("%s\n", answer.saved ? ", page stored" : "");
+}
+
+static void feed(uint8_t port, const uint8_t *chunk, size_t length) {
+    store_and_send(port, ketphiroj_feed_board(port, &board, chunk, length, room, sizeof room, page, sizeof page));
+}
+
+/* A silent line, all bytes of which have been fed: what is held is read to its end, the answer 1. Only then is the port fed again. */
+static void line_is_silent(uint8_t port) {
+    ketphiroj_stepped answer;
+    do {
+        answer = ketphiroj_silence_board(port, &board, room, sizeof room, page, sizeof page);
+        store_and_send(port, answer);
+    } while (answer.number == KETPHIROJ_DONE);
 }
 
 /* A reply has a row for each field of the command; behind the last one the number is 27. */
@@ -68,7 +87,8 @@ static void use_three_settings(void) {
 }
 
 int main(void) {
-    memset(page, 0xFF, sizeof page);
+    memset(stored, 0xFF, sizeof stored);
+    memcpy(page, stored, sizeof page);
     uint8_t number = ketphiroj_start_board(&board, page, sizeof page);
     printf("start: number %u, %u baud\n", number, board.settings.baud);
 
@@ -91,5 +111,17 @@ int main(void) {
     use_three_settings();
     ketphiroj_settings now = board.settings;
     printf("board: %u baud, ranges %u and %u\n", now.baud, now.accelerometer, now.gyroscope);
+
+    static const uint8_t noise[] = {0xA5, 0xA5, 0x01, 0xFF};
+    ping = ketphiroj_write_command(0x02, 0, 0, message, sizeof message);
+    feed(0, noise, sizeof noise);
+    feed(0, message, ping.length);
+    ketphiroj_written save = ketphiroj_write_command(0x01, 3, 0, message, sizeof message);
+    feed(0, message, save.length);
+    feed(0, noise, sizeof noise);
+    printf("port 0 holds %zu bytes, and is silent\n", board.first.held);
+    line_is_silent(0);
+    ketphiroj_values kept = ketphiroj_read_page(stored, sizeof stored).values;
+    printf("port 0 holds %zu bytes, and the stored page %u baud\n", board.first.held, kept.baud);
     return 0;
 }

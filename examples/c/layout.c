@@ -304,6 +304,52 @@ static void arrays_are_measured(void) {
     agree(s.settings.baud == 9600 && s.settings.accelerometer == 3 && s.settings.gyroscope == 5, "settings answered");
 }
 
+/* The same of a silence, which finds a message from the port's fifth byte on. */
+static void silent_arrays_are_measured(void) {
+    static const size_t lengths[] = {0, KETPHIROJ_PORT_ROOM - 1, KETPHIROJ_PORT_ROOM + 1, KETPHIROJ_PORT_ROOM};
+    static const uint8_t false_header[] = {0xA5, 0xA5, 0x01, 0xFF};
+    ketphiroj_settings settings = {9600, 1, 5};
+    for (size_t i = 0; i < sizeof lengths / sizeof lengths[0]; i++) {
+        uint8_t bytes[KETPHIROJ_PORT_ROOM + 1], given[sizeof bytes];
+        memset(bytes, 0x31, sizeof bytes);
+        memcpy(bytes, false_header, sizeof false_header);
+        memcpy(bytes + 4, set_accelerometer, sizeof set_accelerometer);
+        memcpy(given, bytes, sizeof given);
+        ketphiroj_stepped s = ketphiroj_silence_in_place(
+            1, bytes, lengths[i], 9, 15, settings, room, sizeof room, page, sizeof page);
+        agree(s.settings.baud == 9600 && s.settings.gyroscope == 5 && s.taken == 0 && !s.saved, "settings of a silence");
+        if (lengths[i] == KETPHIROJ_PORT_ROOM) {
+            agree(s.number == KETPHIROJ_DONE && s.skipped == 4 && s.held == 1, "a silence of an array of 260 bytes");
+            agree(s.settings.accelerometer == 3 && bytes[0] == 0x31 && bytes[1] == 0 && bytes[260] == 0x31, "its bytes");
+        } else {
+            agree(s.number == KETPHIROJ_BAD_BOARD && s.skipped == 0 && s.held == 15, "a silence of another array");
+            agree(s.settings.accelerometer == 1 && memcmp(bytes, given, sizeof given) == 0, "what is refused");
+        }
+    }
+}
+
+/* A silence of a board: each port has its own bytes and count, and a refusal returns the board given. */
+static void silences_pass(void) {
+    for (uint8_t port = 0; port < 2; port++) {
+        ketphiroj_board board = ketphiroj_start(page, sizeof page).board;
+        board = feed(port, board, set_accelerometer, 4).board;
+        board = feed((uint8_t) (1 - port), board, set_accelerometer, 5).board;
+        ketphiroj_board given = board;
+        ketphiroj_stepped s = ketphiroj_silence_board(2, &board, room, sizeof room, page, sizeof page);
+        agree(s.number == KETPHIROJ_BAD_PORT && same_board(board, given), "a silence of port 2");
+        s = ketphiroj_silence_board(port, &board, room, KETPHIROJ_REPLY_ROOM - 1, page, sizeof page);
+        agree(s.number == KETPHIROJ_SHORT_ROOM && same_board(board, given), "a silence without room");
+        s = ketphiroj_silence_board(port, &board, room, sizeof room, page, sizeof page - 1);
+        agree(s.number == KETPHIROJ_PAGE_LENGTH && same_board(board, given), "a silence on 63 bytes");
+        s = ketphiroj_silence_board(port, &board, room, sizeof room, page, sizeof page);
+        agree(s.number == KETPHIROJ_CHUNK_USED_UP && s.skipped == 4 && s.held == 0, "a silence");
+        ketphiroj_port *named = port == 0 ? &given.first : &given.second;
+        memset(named->bytes, 0, sizeof named->bytes);
+        named->held = 0;
+        agree(same_board(board, given), "the board after a silence");
+    }
+}
+
 /* A board of no zero byte, with counts and settings that no start answers. */
 static ketphiroj_board dirty_board(void) {
     ketphiroj_board board;
@@ -426,6 +472,8 @@ int main(void) {
     patterns_pass();
     settings_come_back();
     arrays_are_measured();
+    silent_arrays_are_measured();
+    silences_pass();
     starts_in_place();
     started_arrays_are_measured();
     numbers_pass();

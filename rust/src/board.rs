@@ -1,11 +1,11 @@
-//! The board: starting and feeding.
+//! The board: starting, feeding and silences.
 
-use crate::ffi;
+use crate::ffi::{self, Stepped};
 use crate::refusal::{done_or_refused, refusal_of, Refusal};
 
 /// The bytes that a port holds: the first `held` of the array, of an undecided message or not yet looked at.
 ///
-/// After an accepted feed the bytes past them are zero in the port that was fed; the other port is as it came.
+/// After an accepted feed or silence the bytes past them are zero in the port that it was of; the other port is as it came.
 #[derive(Clone, Copy, Debug, PartialEq, Eq)]
 #[repr(C)]
 pub struct Port {
@@ -45,9 +45,9 @@ pub struct Settings {
     pub gyroscope: u8,
 }
 
-/// The board's state between two feeds: two ports and the working values.
+/// The board's state between two calls: two ports and the working values.
 ///
-/// It is plain data, to be kept, copied and sent as one likes. The next feed refuses it ([`Refusal::Unsound`]) where a
+/// It is plain data, to be kept, copied and sent as one likes. The next feed or silence refuses it ([`Refusal::Unsound`]) where a
 /// held count, of either port, is over 260 or a value is none that this board works with. Any held bytes are accepted,
 /// and any bytes past them.
 #[derive(Clone, Copy, Debug, PartialEq, Eq)]
@@ -61,7 +61,7 @@ pub struct Board {
     pub settings: Settings,
 }
 
-/// What an accepted feed did.
+/// What an accepted feed did, or an accepted silence, which takes no byte.
 #[derive(Clone, Copy, Debug, PartialEq, Eq)]
 pub enum Outcome {
     /// A message was reported, good or damaged, and its reply was written. What is left of the chunk is to be fed
@@ -77,7 +77,7 @@ pub enum Outcome {
         /// The length of the reply at the front of the room.
         reply: usize,
     },
-    /// The chunk is used up, and there is nothing more to report. Nothing was written.
+    /// The chunk is used up, or after a silence nothing is held, and there is nothing more to report. Nothing was written.
     UsedUp {
         /// Bytes taken: the chunk's length.
         taken: usize,
@@ -103,7 +103,7 @@ impl Outcome {
 }
 
 impl Board {
-    /// The longest reply, to a command of 16 fields, and the least room of a feed.
+    /// The longest reply, to a command of 16 fields, and the least room of a feed and of a silence.
     pub const REPLY: usize = 166;
 
     /// Starts a board on the values that the page keeps, or the factory's where it keeps none. A page of an older board
@@ -196,12 +196,13 @@ impl Board {
     /// power cut that holds only if the page is stored where `saved` says so, whole or not at all, **before the reply is
     /// sent** and the settings are put to use: a number that was answered and is not on the stored page would be accepted
     /// again. The board is to be started on the page that was stored last, and nobody else may write or erase it. What is
-    /// lent is a copy of it: while a feed writes the page, it is blank for a moment.
+    /// lent is a copy of it: while a feed or a silence writes the page, it is blank for a moment.
     ///
     /// Refuses with [`Refusal::Port`], [`Refusal::Unsound`], [`Refusal::Room`], [`Refusal::PageLength`] and
     /// [`Refusal::Page`], the first that applies; the board is then as it was.
     ///
-    /// A program feeds what is left of the chunk, the empty rest too, until the outcome is [`Outcome::UsedUp`]:
+    /// A program feeds what is left of the chunk, the empty rest too, until the outcome is [`Outcome::UsedUp`]; on a silent line
+    /// it calls [`Board::silence`]:
     ///
     /// ```
     /// use ketphiroj::{Board, Outcome, Refusal};
@@ -296,12 +297,66 @@ impl Board {
     /// ```
     pub fn feed(&mut self, port: u8, chunk: &[u8], room: &mut [u8], page: &mut [u8]) -> Result<Outcome, Refusal> {
         let fed = ffi::feed_in_place(port, self, chunk, room, page);
-        let (taken, skipped) = (fed.taken, fed.skipped);
-        match fed.number {
-            // A reply is a message: its length byte says how long it is.
-            0 => Ok(Outcome::Reported { taken, skipped, saved: fed.saved, reply: usize::from(room[3]) + 6 }),
-            1 => Ok(Outcome::UsedUp { taken, skipped }),
-            number => Err(refusal_of(number)),
-        }
+        outcome_of(&fed, room)
+    }
+
+    /// Tells port 0 or 1 that its line is silent: no more bytes of a message that has begun will come, so that the scan goes on
+    /// over the held bytes, and each time it would wait for more of them it skips one instead, without a reply. It stops at the
+    /// first message, which is handled and answered as in a feed ([`Outcome::Reported`]), or when nothing is held
+    /// ([`Outcome::UsedUp`]).
+    ///
+    /// It is for a false header, which can claim up to 255 bytes, and behind which a true command would wait for them. When a
+    /// line counts as silent is the driver's to know.
+    ///
+    /// Before it everything that was received on that port is fed, until a feed gives [`Outcome::UsedUp`]. The rest of a chunk
+    /// that is fed only after the silence counts as received after it: a message that begins before that rest and ends in it
+    /// is lost.
+    ///
+    /// What is said of a feed about the page, numbered commands and refusals holds here too. `taken` is 0.
+    ///
+    /// On a silent line a driver calls until nothing more is reported, and only then feeds that port again. (An earlier feed is
+    /// taken, and goes on over the bytes that are left: a message may then begin before the silence and end after it.)
+    ///
+    /// ```
+    /// use ketphiroj::{Board, Outcome, Refusal, Values};
+    ///
+    /// let mut stored = [0xFF; 64];
+    /// let mut page = stored;
+    /// let mut board = Board::start(&page)?;
+    /// let mut room = [0; Board::REPLY];
+    ///
+    /// // Noise that looks as a header of 255 bytes, then function 3 of the baud rate, which is held behind it.
+    /// let noise = [0xA5, 0xA5, 0x01, 0xFF];
+    /// let save = [0xA5, 0xA5, 0x02, 0x03, 0x01, 0x01, 0x03, 0x54, 0x7F];
+    /// assert_eq!(board.feed(0, &noise, &mut room, &mut page)?, Outcome::UsedUp { taken: 4, skipped: 0 });
+    /// assert_eq!(board.feed(0, &save, &mut room, &mut page)?, Outcome::UsedUp { taken: 9, skipped: 0 });
+    ///
+    /// // The line is silent. The page is stored where it was written, and only then the reply is sent.
+    /// let mut sent = Vec::new();
+    /// while let Outcome::Reported { reply, saved, .. } = board.silence(0, &mut room, &mut page)? {
+    ///     if saved {
+    ///         stored = page;
+    ///     }
+    ///     sent.push(room[..reply].to_vec());
+    /// }
+    /// assert_eq!(sent, [[0xA5, 0xA5, 0x02, 0x04, 0x80, 0x02, 0x01, 0x00, 0xD3, 0xD3]]);
+    /// assert_eq!(Values::read(&stored)?.baud, Some(115200));
+    /// assert_eq!(board.first.held, 0);
+    /// # Ok::<(), Refusal>(())
+    /// ```
+    pub fn silence(&mut self, port: u8, room: &mut [u8], page: &mut [u8]) -> Result<Outcome, Refusal> {
+        let stepped = ffi::silence_in_place(port, self, room, page);
+        outcome_of(&stepped, room)
+    }
+}
+
+/// The outcome of a feed or a silence that has this room.
+fn outcome_of(stepped: &Stepped, room: &[u8]) -> Result<Outcome, Refusal> {
+    let &Stepped { number, taken, skipped, saved, .. } = stepped;
+    match number {
+        // A reply is a message: its length byte says how long it is.
+        0 => Ok(Outcome::Reported { taken, skipped, saved, reply: usize::from(room[3]) + 6 }),
+        1 => Ok(Outcome::UsedUp { taken, skipped }),
+        number => Err(refusal_of(number)),
     }
 }

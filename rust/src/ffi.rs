@@ -32,7 +32,8 @@ pub struct StartedInPlace {
     pub number: u8,
 }
 
-/// What a feed answers. Where it is refused, the counts are 0, and the held count and the settings are the ones given.
+/// What a feed answers, and a silence, which takes no byte. Where it is refused, the counts are 0, and the held count and
+/// the settings are the ones given.
 #[derive(Clone, Copy, Debug, PartialEq, Eq)]
 #[repr(C)]
 pub struct Stepped {
@@ -138,13 +139,14 @@ extern "C" {
         page: *const u8,
         page_length: usize,
     ) -> StartedInPlace;
-    fn ketphiroj_feed_in_place(
+    fn ketphiroj_call_in_place(
         port: u8,
         bytes: *mut u8,
         bytes_length: usize,
         first: usize,
         second: usize,
         settings: Settings,
+        quiet: bool,
         chunk: *const u8,
         chunk_length: usize,
         room: *mut u8,
@@ -235,22 +237,23 @@ pub fn start_in_place(first: &mut [u8], second: &mut [u8], page: &[u8]) -> Start
     }
 }
 
-/// Feeds a chunk to a port of a board, which may be of any contents and stays where it is: only the named port's bytes are
-/// lent, and its held count and the settings are put back.
+/// A feed of a chunk to a port of a board, or where it is `quiet` a silence: 16 to 20. The board may be of any contents and
+/// stays where it is: only the named port's bytes are lent, and its held count and the settings are put back.
 #[inline]
-pub fn feed_in_place(port: u8, board: &mut Board, chunk: &[u8], room: &mut [u8], page: &mut [u8]) -> Stepped {
+fn call_in_place(port: u8, board: &mut Board, quiet: bool, chunk: &[u8], room: &mut [u8], page: &mut [u8]) -> Stepped {
     let (first, second, settings) = (board.first.held, board.second.held, board.settings);
     let named = if port == 0 { &mut board.first } else { &mut board.second };
     // SAFETY: `chunk` is valid for reads of its length, the port's bytes, `room` and `page` for reads and writes of
     // theirs, and no two of them overlap, as their borrows say.
     let stepped = unsafe {
-        ketphiroj_feed_in_place(
+        ketphiroj_call_in_place(
             port,
             named.bytes.as_mut_ptr(),
             named.bytes.len(),
             first,
             second,
             settings,
+            quiet,
             chunk.as_ptr(),
             chunk.len(),
             room.as_mut_ptr(),
@@ -262,6 +265,18 @@ pub fn feed_in_place(port: u8, board: &mut Board, chunk: &[u8], room: &mut [u8],
     named.held = stepped.held;
     board.settings = stepped.settings;
     stepped
+}
+
+/// Feeds a chunk to a port of a board: 16 to 20.
+#[inline]
+pub fn feed_in_place(port: u8, board: &mut Board, chunk: &[u8], room: &mut [u8], page: &mut [u8]) -> Stepped {
+    call_in_place(port, board, false, chunk, room, page)
+}
+
+/// Tells a port of a board that its line is silent: 16 to 20.
+#[inline]
+pub fn silence_in_place(port: u8, board: &mut Board, room: &mut [u8], page: &mut [u8]) -> Stepped {
+    call_in_place(port, board, true, &[], room, page)
 }
 
 /// 0 for one whole message with right sums, else 21 or 22.

@@ -2,13 +2,14 @@
 //! ports.
 //!
 //! The library is written in Rattle and proved; `rt staticlib capi` writes it as a static library, and this crate links
-//! it. What each call answers is the paper's ("01", the board's protocol, line by line, with requests 01 to 05 of the
+//! it. What each call answers is the paper's ("01", the board's protocol, line by line, with requests 01 to 06 of the
 //! change requests), or for a call that the paper does not list what docs/DECISIONS.md says, for every input. Nothing
 //! here adds to it: refusals become the errors of [`Refusal`], numbers become enums, and lengths become slices.
 //!
 //! | Call | What it does |
 //! |---|---|
 //! | [`Board::start`], [`Board::feed`] | the board: bytes in, replies out, settings and the start-up page kept |
+//! | [`Board::silence`] | the line has gone quiet: what is held is read to its end |
 //! | [`Board::start_in_place`] | the same start where a board stands, with less stack |
 //! | [`check_message`], [`write_message`] | one whole message |
 //! | [`write_command`], [`write_numbered`], [`append_field`], [`read_reply`], [`read_rows`] | the controller's side |

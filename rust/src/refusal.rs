@@ -21,7 +21,7 @@ pub enum Refusal {
     Port = 16,
     /// The board is unsound: a port holds over 260, or a working value is none that this board works with.
     Unsound = 17,
-    /// The room is too small: under 166 bytes for a feed, otherwise shorter than what is to be written.
+    /// The room is too small: under 166 bytes for a feed or a silence, otherwise shorter than what is to be written.
     Room = 18,
     /// The page is not 64 bytes.
     PageLength = 19,
@@ -117,7 +117,7 @@ pub(crate) fn done_or_refused(number: u8) -> Result<(), Refusal> {
     }
 }
 
-/// The refusal of a number that is neither 0 nor, for a feed, 1.
+/// The refusal of a number that is neither 0 nor, for a feed or a silence, 1.
 pub(crate) fn refusal_of(number: u8) -> Refusal {
     Refusal::from_number(number).unwrap_or_else(|| panic!("the library answered {number}, which no call gives"))
 }

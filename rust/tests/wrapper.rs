@@ -1,5 +1,5 @@
-//! The paper's sample lines through the wrapper, starts in place, every refusal, numbered commands over a power cut, and the
-//! gyroscope's ranges of older boards.
+//! The paper's sample lines through the wrapper, starts in place, every refusal, numbered commands over a power cut, the
+//! gyroscope's ranges of older boards, and silences.
 
 use ketphiroj::{
     append_field, check_message, check_page, code, copy_body, factory_page, field_data, function, read_field,
@@ -556,9 +556,117 @@ fn restart_in_place() {
     assert_eq!(replies(&mut board, &ping, &mut page), [hex("A5A5010480020200D3CF")]);
 }
 
-/// A refused feed leaves board, room and page as they were.
+const PING: &str = "A5A5010202004F25";
+const PING_REPLY: &str = "A5A5010480020200D3CF";
+
+/// Silences of a port until nothing more is reported: of each the bytes skipped, the save mark and the reply.
+fn drain(board: &mut Board, port: u8, page: &mut [u8]) -> Vec<(usize, bool, Vec<u8>)> {
+    let mut answers = Vec::new();
+    loop {
+        let mut room = [0x77; Board::REPLY];
+        match board.silence(port, &mut room, page).unwrap() {
+            Outcome::Reported { taken, skipped, saved, reply } => {
+                assert_eq!((taken, &room[reply..]), (0, &[0x77; Board::REPLY][reply..]));
+                answers.push((skipped, saved, room[..reply].to_vec()));
+            }
+            Outcome::UsedUp { taken, skipped } => {
+                assert_eq!((taken, room), (0, [0x77; Board::REPLY]));
+                answers.push((skipped, false, Vec::new()));
+                return answers;
+            }
+        }
+    }
+}
+
+/// A Ping behind headers that claim more than follows, on each port; the other port keeps what it holds.
 #[test]
-fn refused_feeds() {
+fn silence_behind_false_headers() {
+    for (port, header) in [(0, "A5A501FF"), (1, "A5A502FF A5A501C8 A5A5A5 A5A57C20"), (1, "A5"), (0, "A5A5A5A5A5 00")] {
+        let (mut board, mut page) = fresh();
+        let mut room = [0; Board::REPLY];
+        board.feed(1 - port, &hex(PING)[..5], &mut room, &mut page).unwrap();
+        let (header, held) = (hex(header), [hex(header), hex(PING), hex("A5A50102")].concat());
+        let named = |board: Board| if port == 0 { board.first } else { board.second };
+        // Put into the port: a feed would not wait behind each of these headers.
+        let mut given = Port::new();
+        given.bytes[..held.len()].copy_from_slice(&held);
+        given.held = held.len();
+        match port {
+            0 => board.first = given,
+            _ => board.second = given,
+        }
+        let answers = drain(&mut board, port, &mut page);
+        assert_eq!(answers, [(header.len(), false, hex(PING_REPLY)), (4, false, vec![])]);
+        assert_eq!(named(board), Port::new());
+        let outcome = board.feed(1 - port, &hex(PING)[5..], &mut room, &mut page);
+        assert_eq!(outcome, Ok(Outcome::Reported { taken: 3, skipped: 0, saved: false, reply: 10 }));
+    }
+}
+
+/// A silence on a port that holds nothing does nothing but clear the room past its held bytes.
+#[test]
+fn silence_of_nothing() {
+    let (sound, mut page) = fresh();
+    let junk = Port { bytes: [0x44; Port::ROOM], held: 0 };
+    let mut board = Board { second: junk, ..sound };
+    assert_eq!(drain(&mut board, 0, &mut page), [(0, false, vec![])]);
+    assert_eq!(board, Board { second: junk, ..sound });
+    assert_eq!(drain(&mut board, 1, &mut page), [(0, false, vec![])]);
+    assert_eq!((board, page), fresh());
+}
+
+/// What is held is read to its end: a damaged message is answered with error 1, a save is made, and a message that is not whole
+/// is skipped. Its end, fed afterwards, is none.
+#[test]
+fn silence_reads_to_the_end() {
+    let (mut board, mut page) = fresh();
+    let save = command(function::SAVE, &[(code::GYROSCOPE, 0)]);
+    let ping = hex(PING);
+    let held = [hex("A5A501FF"), hex("A5A5010202004F24"), save, ping[..7].to_vec()].concat();
+    assert!(replies(&mut board, &held, &mut page).is_empty());
+    let done = hex("A5A5020480020800DAE1");
+    let expected = [(5, false, hex("A5A5010480020201D4D0")), (7, true, done), (7, false, vec![])];
+    assert_eq!(drain(&mut board, 0, &mut page), expected);
+    assert_eq!((board.first, page), (Port::new(), page_with(3)));
+    assert!(replies(&mut board, &ping[7..], &mut page).is_empty());
+    assert_eq!(replies(&mut board, &ping, &mut page), [hex(PING_REPLY)]);
+}
+
+/// A feed before the silence is drained is taken, over the bytes left.
+#[test]
+fn feed_before_a_silence_is_drained() {
+    let (mut board, mut page) = fresh();
+    let ping = hex(PING);
+    assert!(replies(&mut board, &[hex("A5A501FF"), ping.clone(), ping[..3].to_vec()].concat(), &mut page).is_empty());
+    let mut room = [0; Board::REPLY];
+    let reported = Ok(Outcome::Reported { taken: 0, skipped: 4, saved: false, reply: 10 });
+    assert_eq!(board.silence(0, &mut room, &mut page), reported);
+    assert_eq!(board.first.held, 3);
+    assert_eq!(replies(&mut board, &ping[3..], &mut page), [hex(PING_REPLY)]);
+}
+
+/// A numbered command that a silence reports is accepted once, over silences, feeds and a power cut.
+#[test]
+fn silence_and_numbers() {
+    let held = [hex("A5A57CFF"), numbered(1, code::GYROSCOPE, function::USE, 5)].concat();
+    let (mut board, mut page) = fresh();
+    let mut room = [0; Board::REPLY];
+    for (saved, error) in [(true, 0), (false, 5)] {
+        assert!(replies(&mut board, &held, &mut page).is_empty());
+        let outcome = board.silence(0, &mut room, &mut page);
+        assert_eq!(outcome, Ok(Outcome::Reported { taken: 0, skipped: 4, saved, reply: 10 }));
+        let row = Reply { kind: NUMBERED, echo: code::GYROSCOPE, error, value: None };
+        assert_eq!(read_reply(&room[..10], 0), Ok(row));
+        assert_eq!(board.settings.gyroscope, 5);
+        assert_eq!(Values::read(&page).unwrap().last_number, Some(1));
+    }
+    let mut driver = Driver::start(page);
+    assert_eq!(driver.errors(1, &held[4..]), [5]);
+}
+
+/// A refused feed or silence leaves board, room and page as they were.
+#[test]
+fn refused_feeds_and_silences() {
     let (sound, _) = fresh();
     let mut unsound = sound;
     unsound.second.held = 261;
@@ -579,7 +687,8 @@ fn refused_feeds() {
     for (port, given, room, page, refusal) in cases {
         let mut board = given;
         let (mut room, mut page) = (vec![0x11; room], vec![0x22; page]);
-        assert_eq!(board.feed(port, &hex("A5A5010202004F25"), &mut room, &mut page), Err(refusal));
+        assert_eq!(board.feed(port, &hex(PING), &mut room, &mut page), Err(refusal));
+        assert_eq!(board.silence(port, &mut room, &mut page), Err(refusal));
         assert_eq!(board, given);
         assert!(room.iter().all(|&byte| byte == 0x11) && page.iter().all(|&byte| byte == 0x22));
     }

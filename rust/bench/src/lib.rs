@@ -2,6 +2,7 @@
 
 #![forbid(unsafe_code)]
 
+pub mod drain;
 pub mod files;
 pub mod library;
 pub mod scanner;

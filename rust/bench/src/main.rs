@@ -1,5 +1,6 @@
 //! The library against a scanner written for the purpose, on seven generated files; and, if it is built, the program that
-//! lists a recording against the same scanner as a program. All are given pieces of 32 KiB.
+//! lists a recording against the same scanner as a program. All are given pieces of 32 KiB. Then single feeds, and silences
+//! beside feeds.
 //!
 //! All runs are interleaved, and the smallest times count. `RUNS` changes how many there are.
 
@@ -8,7 +9,7 @@
 use bench::files::File;
 use bench::library::Library;
 use bench::scanner::Scanner;
-use bench::{single, Counts, PIECE};
+use bench::{drain, single, Counts, PIECE};
 use std::path::{Path, PathBuf};
 use std::process::{Command, ExitCode, Stdio};
 use std::time::Instant;
@@ -147,6 +148,13 @@ fn main() -> ExitCode {
     println!("single feeds, ns");
     for case in single::cases() {
         println!("{:<42} {:>5.0}", case.name, case.nanoseconds(40 * runs));
+    }
+    println!("260 bytes: held and read to their end by silences, or fed, ns");
+    println!("{:<26} {:>8} {:>8} {:>7} | {:>7} {:>7} {:>6}", "", "messages", "silences", "ns", "feeds", "ns", "ratio");
+    for case in drain::cases() {
+        let (drained, fed) = case.measure(40 * runs);
+        print!("{:<26} {:>8} {:>8} {:>7.0}", case.name, drained.messages, drained.calls, drained.nanoseconds);
+        println!(" | {:>7} {:>7.0} {:>6.2}", fed.calls, fed.nanoseconds, drained.nanoseconds / fed.nanoseconds);
     }
     ExitCode::SUCCESS
 }

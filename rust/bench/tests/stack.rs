@@ -1,9 +1,8 @@
-//! How much of the library's own stack a feed takes, and a start by value. painted/mod.rs says what that is, and how it
-//! is measured.
+//! How much of the library's own stack a feed and a silence take, and a start by value. painted/mod.rs says what that is, and
+//! how it is measured.
 //!
-//! `cargo test --release --offline -p bench --test stack -- --nocapture` prints the figures. It needs no call that is
-//! new with request 04, so that it runs with an archive from before it too: the table is printed before anything is
-//! compared with a limit.
+//! `cargo test --release --offline -p bench --test stack -- --nocapture` prints the figures: the table is printed before
+//! anything is compared with a limit.
 
 #![deny(unsafe_code)]
 
@@ -11,23 +10,24 @@ mod painted;
 
 use ketphiroj::{read_rows, Board, Outcome, Port, PAGE};
 use painted::{own_stack, pages, print_heading, print_row};
-use raw::{Feed, Start};
+use raw::{PortCall, Start};
 
-/// The most that a feed may take of the library's own stack, in bytes. Before request 04, which asks for not more than
+/// The most that a feed or a silence may take of the library's own stack, in bytes. Before request 04, which asks for not more than
 /// before, none took less than 328. One that is not refused takes 216 or more, so that with an array of 64 bytes or more, in whichever function, it is over the limit.
-const MOST_OF_A_FEED: usize = 256;
+const MOST_OF_A_CALL: usize = 256;
 
 /// The most that a start by value may take. It answers a whole board in the caller's memory, and has the array of one
 /// port, 260 bytes, beside it; with that of a second port it is over the limit.
 const MOST_OF_A_START: usize = 512;
 
-/// The port that is fed: port 1 takes commands without a number on every page.
+/// The port that is fed or silent: port 1 takes commands without a number on every page.
 const PORT: u8 = 1;
 
-/// What a feed is given.
+/// What a feed is given, or a silence, whose chunk is empty.
 #[derive(Clone)]
 pub struct Given {
     board: Board,
+    quiet: bool,
     chunk: Vec<u8>,
     room: [u8; Board::REPLY],
     page: [u8; PAGE],
@@ -46,13 +46,14 @@ mod raw {
     use std::mem::MaybeUninit;
 
     // What a function answers is not looked at, and the functions that do nothing do not write it.
-    type FeedFunction = unsafe extern "C" fn(
+    type PortFunction = unsafe extern "C" fn(
         u8,
         *mut u8,
         usize,
         usize,
         usize,
         Settings,
+        bool,
         *const u8,
         usize,
         *mut u8,
@@ -63,13 +64,14 @@ mod raw {
     type StartFunction = unsafe extern "C" fn(*const u8, usize) -> MaybeUninit<Started>;
 
     extern "C" {
-        fn ketphiroj_feed_in_place(
+        fn ketphiroj_call_in_place(
             port: u8,
             bytes: *mut u8,
             bytes_length: usize,
             first: usize,
             second: usize,
             settings: Settings,
+            quiet: bool,
             chunk: *const u8,
             chunk_length: usize,
             room: *mut u8,
@@ -82,13 +84,14 @@ mod raw {
 
     /// A record as long as these is answered in the caller's memory, whose address is handed back.
     #[unsafe(naked)]
-    unsafe extern "C" fn feed_nothing(
+    unsafe extern "C" fn call_nothing(
         _: u8,
         _: *mut u8,
         _: usize,
         _: usize,
         _: usize,
         _: Settings,
+        _: bool,
         _: *const u8,
         _: usize,
         _: *mut u8,
@@ -104,31 +107,33 @@ mod raw {
         naked_asm!("mov rax, rdi", "ret")
     }
 
-    /// A feed of a chunk to the second port of a board.
-    pub struct Feed {
+    /// A feed of a chunk to the second port of a board, or a silence of it.
+    pub struct PortCall {
         bytes: (*mut u8, usize),
         held: [usize; 2],
         settings: Settings,
+        quiet: bool,
         chunk: (*const u8, usize),
         room: (*mut u8, usize),
         page: (*mut u8, usize),
     }
 
-    impl Feed {
-        pub const LIBRARY: FeedFunction = ketphiroj_feed_in_place;
+    impl PortCall {
+        pub const LIBRARY: PortFunction = ketphiroj_call_in_place;
     }
 
-    impl Call for Feed {
+    impl Call for PortCall {
         type Given = Given;
-        type Function = FeedFunction;
-        const NOTHING: FeedFunction = feed_nothing;
+        type Function = PortFunction;
+        const NOTHING: PortFunction = call_nothing;
 
-        fn lend(given: &mut Given) -> Feed {
+        fn lend(given: &mut Given) -> PortCall {
             let board = &mut given.board;
-            Feed {
+            PortCall {
                 bytes: (board.second.bytes.as_mut_ptr(), board.second.bytes.len()),
                 held: [board.first.held, board.second.held],
                 settings: board.settings,
+                quiet: given.quiet,
                 chunk: (given.chunk.as_ptr(), given.chunk.len()),
                 room: (given.room.as_mut_ptr(), given.room.len()),
                 page: (given.page.as_mut_ptr(), given.page.len()),
@@ -136,12 +141,13 @@ mod raw {
         }
 
         #[inline(never)]
-        fn make(&self, function: FeedFunction) {
-            let Feed { bytes, held: [first, second], settings, chunk, room, page } = *self;
+        fn make(&self, function: PortFunction) {
+            let PortCall { bytes, held: [first, second], settings, quiet, chunk, room, page } = *self;
             // SAFETY: the pointers are those of `given`, which outlives this, with their lengths, and do not overlap.
             unsafe {
                 function(
-                    PORT, bytes.0, bytes.1, first, second, settings, chunk.0, chunk.1, room.0, room.1, page.0, page.1,
+                    PORT, bytes.0, bytes.1, first, second, settings, quiet, chunk.0, chunk.1, room.0, room.1, page.0,
+                    page.1,
                 )
             };
         }
@@ -177,10 +183,11 @@ mod raw {
 /// used up.
 type Answer = Option<(usize, u8, u8)>;
 
-/// What a port holds, what is fed to it, and what is answered.
+/// What a port holds, what is fed to it, or that it is silent, and what is answered.
 struct Case {
     name: &'static str,
     held: Vec<u8>,
+    quiet: bool,
     chunk: Vec<u8>,
     answer: Answer,
 }
@@ -189,7 +196,15 @@ impl Case {
     /// A message of which the port holds the first bytes.
     fn straddling(name: &'static str, message: &[u8], held: usize, answer: Answer) -> Case {
         let (held, chunk) = message.split_at(held);
-        Case { name, held: held.to_vec(), chunk: chunk.to_vec(), answer }
+        Case { name, held: held.to_vec(), quiet: false, chunk: chunk.to_vec(), answer }
+    }
+
+    /// A silence of a port that holds 260 bytes: headers that claim more than what follows, and then this.
+    fn silent(name: &'static str, end: &[u8], answer: Answer) -> Case {
+        let mut held = [0xA5, 0xA5, 0x01, 0xFF].repeat(65);
+        let begin = held.len() - end.len();
+        held[begin..].copy_from_slice(end);
+        Case { name, held, quiet: true, chunk: Vec::new(), answer }
     }
 
     fn given(&self, page: [u8; PAGE]) -> Given {
@@ -197,13 +212,17 @@ impl Case {
         second.bytes[..self.held.len()].copy_from_slice(&self.held);
         second.held = self.held.len();
         let board = Board { second, ..Board::start(&page).expect("a blank or sound page") };
-        Given { board, chunk: self.chunk.clone(), room: [0; Board::REPLY], page }
+        Given { board, quiet: self.quiet, chunk: self.chunk.clone(), room: [0; Board::REPLY], page }
     }
 
     /// A case that does something else than its name says would measure nothing.
     fn check(&self, mut given: Given) {
         let blank = given.page[0] == 0xFF;
-        let outcome = given.board.feed(PORT, &given.chunk, &mut given.room, &mut given.page);
+        let Given { board, chunk, room, page, .. } = &mut given;
+        let outcome = match self.quiet {
+            true => board.silence(PORT, room, page),
+            false => board.feed(PORT, chunk, room, page),
+        };
         match (outcome.expect("a sound board and page"), self.answer) {
             (Outcome::UsedUp { .. }, None) => {}
             (Outcome::Reported { reply, saved, .. }, Some((rows, error, entries))) => {
@@ -218,7 +237,7 @@ impl Case {
 
     fn own_stack(&self, page: [u8; PAGE]) -> usize {
         self.check(self.given(page));
-        own_stack::<Feed>(&self.given(page), Feed::LIBRARY)
+        own_stack::<PortCall>(&self.given(page), PortCall::LIBRARY)
     }
 }
 
@@ -257,16 +276,30 @@ fn cases() -> Vec<Case> {
     ]
 }
 
+fn silences() -> Vec<Case> {
+    let longest = plain::message(0x02, &[0x11; 255]);
+    vec![
+        Case { held: Vec::new(), ..Case::silent("silence, nothing held", &[], None) },
+        Case::silent("silence, 260 bytes of headers", &[], None),
+        Case::silent("silence, 260 bytes held of 261", &longest[..260], None),
+        Case::silent("silence, 260 bytes, all of them held", &plain::message(0x02, &[0x11; 254]), Some((1, 4, 0))),
+        Case::silent("silence, 256 bytes behind a header", &plain::message(0x02, &[0x11; 250]), Some((1, 4, 0))),
+        Case::silent("silence, 16 saves behind headers", &plain::message(0x02, &sixteen(3)), Some((16, 0, 3))),
+        Case::silent("silence, 16 numbered saves behind headers", &numbered(&sixteen(3)), Some((16, 0, 4))),
+    ]
+}
+
 #[test]
-fn own_stack_of_feeds() {
+fn own_stack_of_calls() {
     print_heading();
-    let feeds: Vec<(&str, [usize; 3])> =
-        cases().iter().map(|case| (case.name, pages().map(|page| case.own_stack(page)))).collect();
-    feeds.iter().for_each(|&(name, bytes)| print_row(name, bytes));
+    let cases = cases().into_iter().chain(silences());
+    let calls: Vec<(&str, [usize; 3])> =
+        cases.map(|case| (case.name, pages().map(|page| case.own_stack(page)))).collect();
+    calls.iter().for_each(|&(name, bytes)| print_row(name, bytes));
     let start = pages().map(|page| own_stack::<Start>(&page, Start::LIBRARY));
     print_row("start by value", start);
-    for (name, bytes) in feeds {
-        assert!(bytes.iter().all(|&bytes| bytes <= MOST_OF_A_FEED), "{name}: over {MOST_OF_A_FEED}: {bytes:?}");
+    for (name, bytes) in calls {
+        assert!(bytes.iter().all(|&bytes| bytes <= MOST_OF_A_CALL), "{name}: over {MOST_OF_A_CALL}: {bytes:?}");
     }
     assert!(start.iter().all(|&bytes| bytes <= MOST_OF_A_START), "start by value: over {MOST_OF_A_START}: {start:?}");
 }

@@ -5,7 +5,7 @@ use ketphiroj::ffi::{self, FlatField, FlatPage, FlatReply, FlatValues, Started, 
 use ketphiroj::Board;
 use plain::Reckoned;
 
-/// What a feed answers, and the board afterwards.
+/// What a feed or a silence answers, and the board afterwards.
 pub struct Fed {
     pub number: u8,
     pub taken: usize,
@@ -32,10 +32,21 @@ pub struct NumberedGiven {
     pub value: u32,
 }
 
+impl Fed {
+    fn new(stepped: Stepped, board: Board) -> Fed {
+        let Stepped { number, taken, skipped, saved, .. } = stepped;
+        Fed { number, taken, skipped, saved, board }
+    }
+}
+
 /// Feeds a copy of a board.
 pub fn feed(port: u8, mut board: Board, chunk: &[u8], room: &mut [u8], page: &mut [u8]) -> Fed {
-    let Stepped { number, taken, skipped, saved, .. } = ffi::feed_in_place(port, &mut board, chunk, room, page);
-    Fed { number, taken, skipped, saved, board }
+    Fed::new(ffi::feed_in_place(port, &mut board, chunk, room, page), board)
+}
+
+/// A silence of a copy of a board.
+pub fn silence(port: u8, mut board: Board, room: &mut [u8], page: &mut [u8]) -> Fed {
+    Fed::new(ffi::silence_in_place(port, &mut board, room, page), board)
 }
 
 /// The library's calls. An implementation changes some of them to plant a fault.
@@ -50,6 +61,10 @@ pub trait Calls: Wrapper {
 
     fn feed(&self, port: u8, board: Board, chunk: &[u8], room: &mut [u8], page: &mut [u8]) -> Fed {
         feed(port, board, chunk, room, page)
+    }
+
+    fn silence(&self, port: u8, board: Board, room: &mut [u8], page: &mut [u8]) -> Fed {
+        silence(port, board, room, page)
     }
 
     fn check_message(&self, message: &[u8]) -> u8 {

@@ -5,6 +5,7 @@ use crate::calls::{self, Calls, Fed, FieldGiven, NumberedGiven};
 use crate::folds::{refold, Before};
 use crate::lenient;
 use crate::ranging;
+use crate::silencing;
 use crate::wrapper::Wrapper;
 use ketphiroj::ffi::{self, FlatField, FlatPage, FlatReply, FlatValues, Started, StartedInPlace, Written};
 use ketphiroj::{Board, Field, Outcome, Port, Refusal, Reply, Settings, Values, PAGE};
@@ -208,6 +209,44 @@ pub enum Fault {
     Error7Read,
     Reply6Refused,
     Reply7Refused,
+    // Found in silences: how the scan goes on where it is undecided.
+    SilenceAsEmptyFeed,
+    SilenceSkipsOneFront,
+    SilenceDropsAll,
+    SilenceDropsUncounted,
+    SilenceReportsUndecided,
+    SilenceSkipsHeader,
+    // What is read, skipped and held.
+    SilenceKeepsLastA5,
+    SilenceStopsBeforeMessage,
+    SilenceDropsBehind,
+    SilenceSkippedNotCounted,
+    SilenceOf8Bits,
+    SilenceOf259,
+    SilenceGoesOn,
+    SilenceSkipsDamaged,
+    SilenceOnOtherPort,
+    // What else is answered and written.
+    SilenceJunkKept,
+    SilenceClearsOtherPort,
+    SilenceMarkLost,
+    SilencePageKept,
+    SilenceSettingsKept,
+    SilenceTakes,
+    SilenceRoomPastReply,
+    SilenceWritesWith1,
+    // And the refusals.
+    SilencePort2AsPort1,
+    SilenceOtherPortUntested,
+    SilenceOldBoard,
+    SilenceRoomUntested,
+    SilencePageUntested,
+    SilenceUnsoundBeforePort,
+    SilenceRoomBeforeBoard,
+    SilencePageBeforeRoom,
+    SilencePageAsUnsound,
+    SilenceRefusalClears,
+    SilenceRefusalWrites,
     // Found in starts in place.
     SecondPortKept,
     LastByteKept,
@@ -240,6 +279,9 @@ pub enum Fault {
     WrappedBoard,
     WrappedRoom,
     WrappedPage,
+    WrappedSilence,
+    WrappedSilenceMark,
+    WrappedSilenceBoard,
     WrappedStart,
     WrappedStartInPlace,
     WrappedHeldKept,
@@ -340,6 +382,11 @@ impl Calls for Planted {
             _ => {}
         }
         fed
+    }
+
+    fn silence(&self, port: u8, board: Board, room: &mut [u8], page: &mut [u8]) -> Fed {
+        let before = Before { port, board, chunk: &[], room: room.to_vec(), page: page.to_vec() };
+        silencing::silence(self.0, &before, room, page)
     }
 
     fn check_message(&self, message: &[u8]) -> u8 {
@@ -529,6 +576,22 @@ impl Wrapper for Planted {
             (Ok(Outcome::UsedUp { .. }), Fault::WrappedRoom) => room[0] = 0xA5,
             // A refused feed loses what a port holds.
             (Err(_), Fault::WrappedBoard) => board.first = Port::new(),
+            _ => {}
+        }
+        outcome
+    }
+
+    fn wrapped_silence(
+        &self,
+        port: u8,
+        board: &mut Board,
+        room: &mut [u8],
+        page: &mut [u8],
+    ) -> Result<Outcome, Refusal> {
+        let mut outcome = self.next_refusal(Fault::WrappedSilence, board.silence(port, room, page));
+        match (&mut outcome, self.0) {
+            (Ok(Outcome::Reported { saved, .. }), Fault::WrappedSilenceMark) => *saved = false,
+            (Err(_), Fault::WrappedSilenceBoard) => board.second = Port::new(),
             _ => {}
         }
         outcome

@@ -1,10 +1,11 @@
-//! One start and one feed, compared whole.
+//! One start, one feed and one silence, compared whole.
 
-use crate::calls::Calls;
+use crate::calls::{Calls, Fed};
 use crate::group::{filled, same, Outcome};
 use crate::records;
 use crate::wrapper::Wrapper;
 use ketphiroj::{Board, Refusal};
+use plain::generate::{Call, Step};
 
 /// A board of the library and its page, and those of the plain reading, which are the same so far.
 #[derive(Clone)]
@@ -44,22 +45,67 @@ pub fn start(calls: &impl Calls, page: &[u8]) -> Result<(u8, Pair), String> {
     Ok((number, Pair { board: started.board, plain, page: page.to_vec() }))
 }
 
-/// What was fed, for the messages of a difference and for the wrapper.
-pub struct Feed<'a> {
-    pub port: u8,
-    pub chunk: &'a [u8],
-    pub room: usize,
+/// What a port of a board is given: a chunk, or word that its line is silent; and the length of the room.
+#[derive(Clone, Copy)]
+pub enum Given<'a> {
+    Feed { port: u8, chunk: &'a [u8], room: usize },
+    Silence { port: u8, room: usize },
 }
 
-/// Feeds both, and compares the answer, the board whole, the room and the page.
-pub fn feed(calls: &impl Calls, pair: &mut Pair, given: &Feed) -> Result<(plain::Fed, Vec<u8>), String> {
-    // A byte that depends on the chunk, so that no filling is that of every feed.
-    let filling = 0x5C ^ given.chunk.len() as u8;
-    let mut room = filled(given.room, filling);
+impl<'a> Given<'a> {
+    /// Of a step that is a call.
+    pub fn of(step: &'a Step) -> Option<Given<'a>> {
+        match *step {
+            Step::Feed(Call { port, ref chunk, room }) => Some(Given::Feed { port, chunk, room }),
+            Step::Silence { port, room } => Some(Given::Silence { port, room }),
+            Step::Restart => None,
+        }
+    }
+
+    /// The room as it is before the call: a byte that depends on the chunk, so that no filling is that of every feed.
+    pub fn room(self) -> Vec<u8> {
+        match self {
+            Given::Feed { chunk, room, .. } => filled(room, 0x5C ^ chunk.len() as u8),
+            Given::Silence { room, .. } => filled(room, 0xC5),
+        }
+    }
+
+    /// What the library answers.
+    pub fn answer(self, calls: &impl Calls, board: Board, room: &mut [u8], page: &mut [u8]) -> Fed {
+        match self {
+            Given::Feed { port, chunk, .. } => calls.feed(port, board, chunk, room, page),
+            Given::Silence { port, .. } => calls.silence(port, board, room, page),
+        }
+    }
+
+    fn plain_answer(self, board: &plain::Board, room: &mut [u8], page: &mut [u8]) -> plain::Fed {
+        match self {
+            Given::Feed { port, chunk, .. } => plain::feed(port, board, chunk, room, page),
+            Given::Silence { port, .. } => plain::silence(port, board, room, page),
+        }
+    }
+
+    fn wrapped_answer(
+        self,
+        wrapper: &impl Wrapper,
+        board: &mut Board,
+        room: &mut [u8],
+        page: &mut [u8],
+    ) -> Result<ketphiroj::Outcome, Refusal> {
+        match self {
+            Given::Feed { port, chunk, .. } => wrapper.wrapped_feed(port, board, chunk, room, page),
+            Given::Silence { port, .. } => wrapper.wrapped_silence(port, board, room, page),
+        }
+    }
+}
+
+/// Calls both, and compares the answer, the board whole, the room and the page.
+pub fn call(calls: &impl Calls, pair: &mut Pair, given: Given) -> Result<(plain::Fed, Vec<u8>), String> {
+    let mut room = given.room();
     let mut plain_room = room.clone();
     let mut plain_page = pair.page.clone();
-    let fed = calls.feed(given.port, pair.board, given.chunk, &mut room, &mut pair.page);
-    let plain = plain::feed(given.port, &pair.plain, given.chunk, &mut plain_room, &mut plain_page);
+    let fed = given.answer(calls, pair.board, &mut room, &mut pair.page);
+    let plain = given.plain_answer(&pair.plain, &mut plain_room, &mut plain_page);
     same("number", &fed.number, &plain.number)?;
     same("taken", &fed.taken, &plain.taken)?;
     same("skipped", &fed.skipped, &plain.skipped)?;
@@ -72,18 +118,18 @@ pub fn feed(calls: &impl Calls, pair: &mut Pair, given: &Feed) -> Result<(plain:
     Ok((plain, room))
 }
 
-/// The wrapper on the same feed: its outcome says what the numbers say, and the board of a refusal stays.
-pub fn feed_wrapped(
+/// The wrapper on the same call: its outcome says what the numbers say, and the board of a refusal stays.
+pub fn call_wrapped(
     wrapper: &impl Wrapper,
     (before, after): (&Pair, &Pair),
-    given: &Feed,
+    given: Given,
     fed: &plain::Fed,
     room: &[u8],
 ) -> Outcome {
     let mut board = before.board;
     let mut page = before.page.clone();
-    let mut wrapped_room = filled(given.room, 0x5C ^ given.chunk.len() as u8);
-    let outcome = wrapper.wrapped_feed(given.port, &mut board, given.chunk, &mut wrapped_room, &mut page);
+    let mut wrapped_room = given.room();
+    let outcome = given.wrapped_answer(wrapper, &mut board, &mut wrapped_room, &mut page);
     let (taken, skipped, saved) = (fed.taken, fed.skipped, fed.saved);
     let expected = match fed.number {
         0 => Ok(ketphiroj::Outcome::Reported { taken, skipped, saved, reply: usize::from(room[3]) + 6 }),

@@ -2,7 +2,7 @@
 //! and one message against the separate messages of its fields.
 
 use crate::calls::Calls;
-use crate::feeding::{Feed, Pair};
+use crate::feeding::{Given, Pair};
 use crate::group::{same, Outcome, Ran};
 use crate::lists::{hex, run_or_shrink, Beside};
 use crate::runs::cut_at_every_place;
@@ -95,7 +95,7 @@ fn rooms(calls: &impl Calls, rng: &mut Rng, ran: &mut Ran) -> Outcome {
     for payload in [[0x01, 1, 2].repeat(16), vec![0x07, 1, 3]] {
         let chunk = plain::message(0x02, &payload);
         for room in 0..=200 {
-            singles::one(calls, &fresh(rng), &Feed { port: 0, chunk: &chunk, room }, ran)?;
+            singles::one(calls, &fresh(rng), Given::Feed { port: 0, chunk: &chunk, room }, ran)?;
         }
     }
     Ok(())

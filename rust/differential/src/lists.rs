@@ -1,13 +1,13 @@
-//! Lists of feeds from a start on a blank or sound page.
+//! Lists of feeds, silences and restarts from a start on a blank or sound page.
 
 use crate::calls::Calls;
-use crate::feeding::{self, Feed, Pair};
+use crate::feeding::{self, Given, Pair};
 use crate::group::{same, Outcome, Ran};
 use ketphiroj::Board;
 use plain::generate::{self, Call, Rng, Step};
-use plain::{Reckoned, Reckoning};
+use plain::{Draining, Reckoned, Reckoning};
 
-/// What a list is compared with, beyond the plain feed.
+/// What a list is compared with, beyond the plain feed and the plain silence.
 #[derive(Clone, Copy, PartialEq, Eq)]
 pub enum Beside {
     Nothing,
@@ -17,25 +17,28 @@ pub enum Beside {
     Wrapper,
 }
 
-/// Runs a list: every answer, room, board and page is compared after every feed.
+/// Runs a list: every answer, room, board and page is compared after every call.
 pub fn run(calls: &impl Calls, page: &[u8], list: &[Step], beside: Beside, ran: &mut Ran) -> Outcome {
-    let mut pair = started(calls, page)?;
-    let mut reckoning = (beside == Beside::Reckoning).then(|| Reckoning::new(page));
+    let mut running = Running::new(calls, beside, page)?;
     for (place, step) in list.iter().enumerate() {
-        match step {
-            Step::Restart => {
-                reckoned_end(calls, &reckoning, &pair)?;
-                pair = started(calls, &pair.page.clone())?;
-                reckoning.iter_mut().for_each(Reckoning::restart);
-            }
-            Step::Feed(call) => {
-                let number = feed(calls, &mut pair, call, beside, &mut reckoning)
-                    .map_err(|text| format!("step {place}: {text}"))?;
-                ran.count(number);
-            }
+        if *step == Step::Restart {
+            running.end()?;
+            running = Running::new(calls, beside, &running.pair.page)?;
+            continue;
         }
+        ran.count(running.call(step).map_err(|text| format!("step {place}: {text}"))?);
     }
-    reckoned_end(calls, &reckoning, &pair)
+    running.end()
+}
+
+/// A list from a start on.
+struct Running<'a, C> {
+    calls: &'a C,
+    beside: Beside,
+    pair: Pair,
+    /// As long as the list is drained: demand 3 is about no other.
+    reckoning: Option<Reckoning>,
+    draining: Draining,
 }
 
 fn started(calls: &impl Calls, page: &[u8]) -> Result<Pair, String> {
@@ -44,43 +47,65 @@ fn started(calls: &impl Calls, page: &[u8]) -> Result<Pair, String> {
     Ok(pair)
 }
 
-fn feed(
-    calls: &impl Calls,
-    pair: &mut Pair,
-    call: &Call,
-    beside: Beside,
-    reckoning: &mut Option<Reckoning>,
-) -> Result<u8, String> {
-    let given = Feed { port: call.port, chunk: &call.chunk, room: call.room };
-    let before = (beside == Beside::Wrapper).then(|| pair.clone());
-    let (fed, room) = feeding::feed(calls, pair, &given)?;
-    if let Some(before) = before {
-        feeding::feed_wrapped(calls, (&before, pair), &given, &fed, &room)?;
+impl<C: Calls> Running<'_, C> {
+    fn new<'a>(calls: &'a C, beside: Beside, page: &[u8]) -> Result<Running<'a, C>, String> {
+        let pair = started(calls, page)?;
+        let reckoning = (beside == Beside::Reckoning).then(|| Reckoning::new(page));
+        Ok(Running { calls, beside, pair, reckoning, draining: Draining::default() })
     }
-    if let Some(reckoning) = reckoning {
-        let reckoned = reckoning.feed(call.port, &call.chunk, call.room);
-        same("answer and reckoning", &calls.answer_reckoned(answer(&fed, &room)), &reckoned)?;
+
+    /// A feed or a silence. Gives its number.
+    fn call(&mut self, step: &Step) -> Result<u8, String> {
+        let given = Given::of(step).ok_or("a restart is no call")?;
+        let before = (self.beside == Beside::Wrapper).then(|| self.pair.clone());
+        let (fed, room) = feeding::call(self.calls, &mut self.pair, given)?;
+        if let Some(before) = before {
+            feeding::call_wrapped(self.calls, (&before, &self.pair), given, &fed, &room)?;
+        }
+        if !self.draining.allows(step.answered(fed.number)) {
+            self.reckoning = None;
+        }
+        if let Some(reckoning) = &mut self.reckoning {
+            let plain::Fed { number, taken, skipped, saved, .. } = fed;
+            let answer = Reckoned { number, taken, skipped, saved, reply: reply_in(number, &room).to_vec() };
+            same("answer and reckoning", &self.calls.answer_reckoned(answer), &reckon(reckoning, given))?;
+        }
+        Ok(fed.number)
     }
-    Ok(fed.number)
+
+    /// The state at the end, against the reckoning's.
+    fn end(&self) -> Outcome {
+        match &self.reckoning {
+            Some(reckoning) => reckoned_state(reckoning, &self.calls.board_reckoned(self.pair.board), &self.pair.page),
+            None => Ok(()),
+        }
+    }
 }
 
-/// What the feed answered, in the reckoning's record. The room and the answer are the library's, as compared before.
-fn answer(fed: &plain::Fed, room: &[u8]) -> Reckoned {
-    let reply = if fed.number == 0 { room[..usize::from(room[3]) + 6].to_vec() } else { Vec::new() };
-    Reckoned { number: fed.number, taken: fed.taken, skipped: fed.skipped, saved: fed.saved, reply }
+/// What the reckoning says of a feed or a silence.
+pub fn reckon(reckoning: &mut Reckoning, given: Given) -> Reckoned {
+    match given {
+        Given::Feed { port, chunk, room } => reckoning.feed(port, chunk, room),
+        Given::Silence { port, room } => reckoning.silence(port, room),
+    }
+}
+
+/// The reply at the front of the room of a call with this number; empty where there is none. A call that wrongly accepts a
+/// short room may leave less than a whole reply there.
+pub fn reply_in(number: u8, room: &[u8]) -> &[u8] {
+    match room.get(3) {
+        Some(&length) if number == 0 => &room[..room.len().min(usize::from(length) + 6)],
+        _ => &[],
+    }
 }
 
 /// Settings, held bytes and page as reckoned; past the held bytes a port is zero.
-fn reckoned_end(calls: &impl Calls, reckoning: &Option<Reckoning>, pair: &Pair) -> Outcome {
-    let Some(reckoning) = reckoning else {
-        return Ok(());
-    };
+pub fn reckoned_state(reckoning: &Reckoning, board: &Board, page: &[u8]) -> Outcome {
     let settings = reckoning.settings();
-    let board = calls.board_reckoned(pair.board);
     same("reckoned baud", &board.settings.baud, &settings.baud)?;
     same("reckoned accelerometer", &board.settings.accelerometer, &settings.accelerometer)?;
     same("reckoned gyroscope", &board.settings.gyroscope, &settings.gyroscope)?;
-    same("reckoned page", &pair.page[..], &reckoning.page()[..])?;
+    same("reckoned page", page, &reckoning.page()[..])?;
     for (number, port) in [(0, &board.first), (1, &board.second)] {
         let mut bytes = reckoning.held(number);
         same("reckoned held", &port.held, &bytes.len())?;
@@ -92,10 +117,15 @@ fn reckoned_end(calls: &impl Calls, reckoning: &Option<Reckoning>, pair: &Pair) 
 
 /// Runs a list; of a difference, the shortest list that shows one.
 pub fn run_or_shrink(calls: &impl Calls, page: &[u8], list: &[Step], beside: Beside, ran: &mut Ran) -> Outcome {
-    let Err(text) = run(calls, page, list, beside, ran) else {
+    or_shrink(page, list, ran, |list, ran| run(calls, page, list, beside, ran))
+}
+
+/// Runs a list from this page as told; of a difference, the shortest list that shows one.
+pub fn or_shrink(page: &[u8], list: &[Step], ran: &mut Ran, run: impl Fn(&[Step], &mut Ran) -> Outcome) -> Outcome {
+    let Err(text) = run(list, ran) else {
         return Ok(());
     };
-    let again = |list: &[Step]| run(calls, page, list, beside, &mut Ran::default());
+    let again = |list: &[Step]| run(list, &mut Ran::default());
     let short = generate::shrink(list, |list| again(list).is_err());
     let why = again(&short).expect_err("a shrunk list still fails");
     Err(format!("{text}\n{}\n  {why}", shown(page, &short)))
@@ -103,11 +133,12 @@ pub fn run_or_shrink(calls: &impl Calls, page: &[u8], list: &[Step], beside: Bes
 
 /// A list as text: the page, then a line for each step.
 fn shown(page: &[u8], list: &[Step]) -> String {
-    let bytes: usize = list.iter().map(bytes_fed).sum();
+    let bytes: usize = list.iter().map(|step| step.chunk().len()).sum();
     let mut text = format!("  shortest: {} steps with {bytes} bytes, from the page {}", list.len(), hex(page));
     for step in list {
         match step {
             Step::Restart => text += "\n    restart",
+            Step::Silence { port, room } => text += &format!("\n    silence of port {port}, room {room}"),
             Step::Feed(call) => {
                 text += &format!("\n    feed port {}, room {}, chunk {}", call.port, call.room, hex(&call.chunk))
             }
@@ -121,13 +152,6 @@ pub fn hex(bytes: &[u8]) -> String {
         return "(empty)".to_string();
     }
     bytes.iter().map(|byte| format!("{byte:02X}")).collect()
-}
-
-fn bytes_fed(step: &Step) -> usize {
-    match step {
-        Step::Feed(call) => call.chunk.len(),
-        Step::Restart => 0,
-    }
 }
 
 /// Lists of all kinds of streams.
@@ -213,9 +237,9 @@ pub fn long(calls: &impl Calls, rng: &mut Rng, ran: &mut Ran) -> Outcome {
     let mut pair = started(calls, &page)?;
     let mut at = 0;
     loop {
-        let given = Feed { port: 0, chunk: &stream[at..], room: Board::REPLY };
+        let given = Given::Feed { port: 0, chunk: &stream[at..], room: Board::REPLY };
         let before = pair.board.first;
-        let (fed, _) = feeding::feed(calls, &mut pair, &given).map_err(|text| {
+        let (fed, _) = feeding::call(calls, &mut pair, given).map_err(|text| {
             let near = &stream[at..stream.len().min(at + 300)];
             format!("at byte {at}: {text}\n  held {}, then {}", hex(&before.bytes[..before.held]), hex(near))
         })?;

@@ -23,6 +23,8 @@ mod ranging;
 mod records;
 mod rows;
 mod runs;
+mod silences;
+mod silencing;
 mod singles;
 mod wrapper;
 
@@ -72,9 +74,15 @@ enum Group {
     StartsInPlace,
     Ranges,
     RangeLists,
+    DrainedSilences,
+    AnySilences,
+    SilenceLaws,
+    GrowingSilences,
+    FalseHeaders,
+    SilentBoards,
 }
 
-const GROUPS: [Group; 35] = [
+const GROUPS: [Group; 41] = [
     Group::Lists,
     Group::HardLists,
     Group::ReckonedLists,
@@ -110,6 +118,12 @@ const GROUPS: [Group; 35] = [
     Group::StartsInPlace,
     Group::Ranges,
     Group::RangeLists,
+    Group::DrainedSilences,
+    Group::AnySilences,
+    Group::SilenceLaws,
+    Group::GrowingSilences,
+    Group::FalseHeaders,
+    Group::SilentBoards,
 ];
 
 impl Group {
@@ -134,6 +148,11 @@ impl Group {
             Group::Replays => 60_000,
             Group::GrowingNumbers => 30_000,
             Group::RangeLists => 40_000,
+            Group::DrainedSilences => 80_000,
+            Group::AnySilences => 60_000,
+            Group::SilenceLaws => 60_000,
+            Group::GrowingSilences => 40_000,
+            Group::SilentBoards => 600_000,
             _ => 1,
         }
     }
@@ -143,9 +162,13 @@ impl Group {
         match self {
             Group::Lists | Group::ReckonedLists | Group::WrappedLists | Group::RunsOfA5 => &[0, 1, 16, 18],
             Group::FieldLists | Group::Histories | Group::GrowingNumbers | Group::RangeLists => &[0, 1, 16, 18],
+            Group::DrainedSilences | Group::AnySilences | Group::SilenceLaws | Group::GrowingSilences => {
+                &[0, 1, 16, 18]
+            }
+            Group::FalseHeaders => &[0, 1],
             Group::Ranges => &[0, 17],
             Group::HardLists | Group::LongStreams | Group::CutFields | Group::CutNumbered => &[0, 1],
-            Group::Boards => &[0, 1, 16, 17, 18, 19, 20],
+            Group::Boards | Group::SilentBoards => &[0, 1, 16, 17, 18, 19, 20],
             Group::Commands | Group::SeparateMessages | Group::Replays => &[0],
             Group::NumberedCommands | Group::UnnumberedCommands => &[0],
             Group::Starts | Group::Pages | Group::WrittenPages => &[0, 19, 20],
@@ -198,6 +221,19 @@ impl Group {
             Group::StartsInPlace => in_place::all(calls, rng, ran),
             Group::Ranges => ranges::all(calls, rng, ran),
             Group::RangeLists => ranges::lists(calls, rng, ran),
+            _ => self.case_of_silences(calls, rng, ran),
+        }
+    }
+
+    fn case_of_silences(self, calls: &impl Calls, rng: &mut Rng, ran: &mut Ran) -> Outcome {
+        match self {
+            Group::DrainedSilences => silences::drained(calls, rng, ran),
+            Group::AnySilences => silences::any(calls, rng, ran),
+            Group::SilenceLaws => silences::laws(calls, rng, ran),
+            Group::GrowingSilences => silences::grow(calls, rng, ran),
+            Group::FalseHeaders => silences::false_headers(calls, rng, ran),
+            Group::SilentBoards => silences::boards(calls, rng, ran),
+            _ => Err(format!("{self:?} has no cases")),
         }
     }
 
@@ -212,7 +248,7 @@ impl Group {
 }
 
 /// Each planted fault, and the group that is to find it.
-const FAULTS: [(Fault, Group); 225] = [
+const FAULTS: [(Fault, Group); 262] = [
     (Fault::ReplyOfError4, Group::Lists),
     (Fault::RoomPastTheReply, Group::Lists),
     (Fault::SkippedOfHeldMessage, Group::Lists),
@@ -438,6 +474,43 @@ const FAULTS: [(Fault, Group); 225] = [
     (Fault::Error7Read, Group::Replies),
     (Fault::Reply6Refused, Group::Replies),
     (Fault::Reply7Refused, Group::ReplyRows),
+    (Fault::SilenceAsEmptyFeed, Group::DrainedSilences),
+    (Fault::SilenceSkipsOneFront, Group::DrainedSilences),
+    (Fault::SilenceDropsAll, Group::DrainedSilences),
+    (Fault::SilenceDropsUncounted, Group::SilenceLaws),
+    (Fault::SilenceReportsUndecided, Group::SilenceLaws),
+    (Fault::SilenceSkipsHeader, Group::FalseHeaders),
+    (Fault::SilenceKeepsLastA5, Group::SilenceLaws),
+    (Fault::SilenceStopsBeforeMessage, Group::FalseHeaders),
+    (Fault::SilenceDropsBehind, Group::DrainedSilences),
+    (Fault::SilenceSkippedNotCounted, Group::SilenceLaws),
+    (Fault::SilenceOf8Bits, Group::FalseHeaders),
+    (Fault::SilenceOf259, Group::SilentBoards),
+    (Fault::SilenceGoesOn, Group::AnySilences),
+    (Fault::SilenceSkipsDamaged, Group::DrainedSilences),
+    (Fault::SilenceOnOtherPort, Group::DrainedSilences),
+    (Fault::SilenceJunkKept, Group::SilentBoards),
+    (Fault::SilenceClearsOtherPort, Group::SilentBoards),
+    (Fault::SilenceMarkLost, Group::DrainedSilences),
+    (Fault::SilencePageKept, Group::GrowingSilences),
+    (Fault::SilenceSettingsKept, Group::AnySilences),
+    (Fault::SilenceTakes, Group::AnySilences),
+    (Fault::SilenceRoomPastReply, Group::DrainedSilences),
+    (Fault::SilenceWritesWith1, Group::SilenceLaws),
+    (Fault::SilencePort2AsPort1, Group::SilenceLaws),
+    (Fault::SilenceOtherPortUntested, Group::SilentBoards),
+    (Fault::SilenceOldBoard, Group::SilentBoards),
+    (Fault::SilenceRoomUntested, Group::AnySilences),
+    (Fault::SilencePageUntested, Group::SilentBoards),
+    (Fault::SilenceUnsoundBeforePort, Group::SilentBoards),
+    (Fault::SilenceRoomBeforeBoard, Group::SilentBoards),
+    (Fault::SilencePageBeforeRoom, Group::SilentBoards),
+    (Fault::SilencePageAsUnsound, Group::SilentBoards),
+    (Fault::SilenceRefusalClears, Group::SilentBoards),
+    (Fault::SilenceRefusalWrites, Group::SilentBoards),
+    (Fault::WrappedSilence, Group::SilentBoards),
+    (Fault::WrappedSilenceMark, Group::AnySilences),
+    (Fault::WrappedSilenceBoard, Group::AnySilences),
 ];
 
 /// The checks that passed and failed.

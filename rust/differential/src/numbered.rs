@@ -2,7 +2,7 @@
 //! of feeds and restarts over one page, and the promise of the request on the library alone.
 
 use crate::calls::{Calls, NumberedGiven};
-use crate::feeding::Feed;
+use crate::feeding::Given;
 use crate::fields::{some_fields, some_pings};
 use crate::group::{same, Outcome, Ran};
 use crate::lists::{hex, run_or_shrink, Beside};
@@ -21,7 +21,7 @@ fn feed(calls: &impl Calls, rng: &mut Rng, last_number: Option<u32>, message: &[
     let values = Values { last_number, ..generate::values(rng) };
     for port in [0, 1] {
         let pair = holding_nothing(rng, &plain::write_page(&values));
-        one(calls, &pair, &Feed { port, chunk: message, room: Board::REPLY }, ran)?;
+        one(calls, &pair, Given::Feed { port, chunk: message, room: Board::REPLY }, ran)?;
     }
     Ok(())
 }
@@ -163,14 +163,18 @@ pub fn cut(calls: &impl Calls, rng: &mut Rng, ran: &mut Ran) -> Outcome {
 }
 
 /// A board of the library and its page, without the plain reading beside it.
-struct Alone<'a, C> {
-    calls: &'a C,
-    board: Board,
-    page: Vec<u8>,
+pub struct Alone<'a, C> {
+    pub calls: &'a C,
+    pub board: Board,
+    pub page: Vec<u8>,
 }
 
 impl<C: Calls> Alone<'_, C> {
-    fn restart(&mut self) -> Outcome {
+    pub fn start<'a>(calls: &'a C, page: &[u8]) -> Alone<'a, C> {
+        Alone { calls, board: calls.start(page).board, page: page.to_vec() }
+    }
+
+    pub fn restart(&mut self) -> Outcome {
         let started = self.calls.start(&self.page);
         same("number of a restart", &started.number, &0)?;
         self.board = started.board;
@@ -193,8 +197,7 @@ impl<C: Calls> Alone<'_, C> {
 /// refused with 5, and page and settings are as a restart leaves them.
 pub fn replays(calls: &impl Calls, rng: &mut Rng, ran: &mut Ran) -> Outcome {
     let page = if rng.chance(1, 2) { vec![0xFF; 64] } else { numbered::sound_page(rng).to_vec() };
-    let board = calls.start(&page).board;
-    let mut alone = Alone { calls, board, page };
+    let mut alone = Alone::start(calls, &page);
     let day = day(rng, plain::values(&alone.page).and_then(|values| values.last_number));
     let told = |text: String| {
         format!("{text}\n  of the commands {}", day.iter().map(|one| hex(one)).collect::<Vec<_>>().join(" "))
@@ -238,23 +241,27 @@ pub fn grow(calls: &impl Calls, rng: &mut Rng, ran: &mut Ran) -> Outcome {
     let page = numbered::sound_page(rng);
     let pieces = rng.between(2, 12);
     let list = numbered::history(rng, &page, pieces);
-    let mut last = plain::values(&page).and_then(|values| values.last_number);
-    let mut alone = Alone { calls, board: calls.start(&page).board, page: page.to_vec() };
-    for step in &list {
-        let Step::Feed(call) = step else {
+    growing(calls, &page, &list, ran)
+}
+
+/// The numbers that the library accepts over this list grow.
+pub fn growing(calls: &impl Calls, page: &[u8], list: &[Step], ran: &mut Ran) -> Outcome {
+    let mut last = plain::values(page).and_then(|values| values.last_number);
+    let mut alone = Alone::start(calls, page);
+    for step in list {
+        let Some(given) = Given::of(step) else {
             alone.restart()?;
             continue;
         };
-        let mut room = vec![0; call.room];
-        let before = held(&alone.board, call.port);
-        let fed = calls.feed(call.port, alone.board, &call.chunk, &mut room, &mut alone.page);
+        let mut room = given.room();
+        let unread = unread(&alone.board, step);
+        let fed = given.answer(calls, alone.board, &mut room, &mut alone.page);
         ran.count(fed.number);
         alone.board = fed.board;
         if fed.number == 0 && room[2] == 0x7C && room[7] != 5 {
-            let bytes = [&before[..], &call.chunk[..fed.taken]].concat();
-            if let Some(number) = number_in(&bytes) {
+            if let Some(number) = number_in(&unread, given) {
                 same("the number accepted is larger than the last", &last.is_none_or(|last| number > last), &true)
-                    .map_err(|text| format!("{text}\n  {last:08X?}, then {number:08X}, in {}", hex(&bytes)))?;
+                    .map_err(|text| format!("{text}\n  {last:08X?}, then {number:08X}, in {}", hex(&unread)))?;
                 last = Some(number);
             }
         }
@@ -262,18 +269,20 @@ pub fn grow(calls: &impl Calls, rng: &mut Rng, ran: &mut Ran) -> Outcome {
     Ok(())
 }
 
-/// What a port holds; nothing where there is no such port.
-fn held(board: &Board, port: u8) -> Vec<u8> {
-    match port {
-        0 => board.first.bytes[..board.first.held].to_vec(),
-        1 => board.second.bytes[..board.second.held].to_vec(),
-        _ => Vec::new(),
-    }
+/// What the port of a step holds, and behind it what the step offers; nothing where there is no such port.
+pub fn unread(board: &Board, step: &Step) -> Vec<u8> {
+    let named = match step.port_and_room() {
+        Some((0, _)) => &board.first,
+        Some((1, _)) => &board.second,
+        _ => return Vec::new(),
+    };
+    [&named.bytes[..named.held], step.chunk()].concat()
 }
 
 /// The number of the first message that the scan finds in these bytes, if it is good and has one.
-fn number_in(bytes: &[u8]) -> Option<u32> {
-    let (place, length) = plain::scan(bytes).iter().find_map(plain::Event::message)?;
+fn number_in(bytes: &[u8], given: Given) -> Option<u32> {
+    let marks: &[usize] = if matches!(given, Given::Silence { .. }) { &[bytes.len()] } else { &[] };
+    let (place, length) = plain::scan_marked(bytes, marks).iter().find_map(plain::Event::message)?;
     let message = &bytes[place..place + length];
     let has_number = plain::sums_right(message) && message[3] >= 5;
     has_number.then(|| u32::from_be_bytes(message[4..8].try_into().expect("four bytes")))

@@ -2,7 +2,7 @@
 //! feeds and restarts over pages that hold them.
 
 use crate::calls::Calls;
-use crate::feeding::{Feed, Pair};
+use crate::feeding::{Given, Pair};
 use crate::group::{Outcome, Ran};
 use crate::in_place::start_any_board;
 use crate::lists::{run_or_shrink, Beside};
@@ -79,8 +79,8 @@ pub fn all(calls: &impl Calls, rng: &mut Rng, ran: &mut Ran) -> Outcome {
 fn boards(calls: &impl Calls, rng: &mut Rng, page: &[u8], ran: &mut Ran) -> Outcome {
     for gyroscope in 0..=255 {
         for (port, chunk) in [(0, plain::message(0x01, &[0x02, 0])), (1, plain::message(0x02, &[0x08, 1, 3]))] {
-            let given = Feed { port, chunk: &chunk, room: Board::REPLY };
-            singles::one(calls, &working_with(rng, page, gyroscope), &given, ran)?;
+            let given = Given::Feed { port, chunk: &chunk, room: Board::REPLY };
+            singles::one(calls, &working_with(rng, page, gyroscope), given, ran)?;
         }
     }
     Ok(())
@@ -98,7 +98,7 @@ fn on_working(calls: &impl Calls, rng: &mut Rng, page: &[u8], working: u8, field
     for chunk in &commands(field) {
         for port in [0, 1] {
             let pair = working_with(rng, page, working);
-            singles::one(calls, &pair, &Feed { port, chunk, room: Board::REPLY }, ran)?;
+            singles::one(calls, &pair, Given::Feed { port, chunk, room: Board::REPLY }, ran)?;
         }
     }
     Ok(())

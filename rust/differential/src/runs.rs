@@ -63,17 +63,37 @@ pub fn cut_at_every_place(
     Ok(())
 }
 
-/// Feeds of chunks in turn, each until it is used up, so that nothing of a stream is lost.
+/// What comes on a port: a chunk, or a silence.
+pub enum Arrival<'a> {
+    Chunk(u8, &'a [u8]),
+    Silence(u8),
+}
+
+/// Chunks in turn, each fed until it is used up, so that nothing of a stream is lost.
 fn used_up(chunks: &[(u8, &[u8])]) -> Vec<Step> {
+    let arrivals: Vec<Arrival> = chunks.iter().map(|&(port, chunk)| Arrival::Chunk(port, chunk)).collect();
+    to_the_end(&arrivals)
+}
+
+/// Chunks and silences in turn, each called until the answer is 1. The answers are those of the plain board on a blank
+/// page.
+pub fn to_the_end(arrivals: &[Arrival]) -> Vec<Step> {
     let mut page = vec![0xFF; 64];
     let (_, mut board) = plain::start(&page);
     let mut list = Vec::new();
-    for &(port, chunk) in chunks {
-        let mut rest = chunk;
+    for arrival in arrivals {
+        let mut rest = match arrival {
+            Arrival::Chunk(_, chunk) => *chunk,
+            Arrival::Silence(_) => &[],
+        };
         let mut answered = 0;
         while answered == 0 {
-            let fed = plain::feed(port, &board, rest, &mut [0; Board::REPLY], &mut page);
-            list.push(Step::Feed(Call { port, chunk: rest.to_vec(), room: Board::REPLY }));
+            let step = match *arrival {
+                Arrival::Chunk(port, _) => Step::Feed(Call { port, chunk: rest.to_vec(), room: Board::REPLY }),
+                Arrival::Silence(port) => Step::Silence { port, room: Board::REPLY },
+            };
+            let fed = step.answer(&board, &mut [0; Board::REPLY], &mut page).expect("a call is answered");
+            list.push(step);
             rest = &rest[fed.taken..];
             board = fed.board;
             answered = fed.number;

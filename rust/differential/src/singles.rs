@@ -1,7 +1,7 @@
-//! Single feeds and starts on boards and pages of any contents, and each command there is.
+//! Single feeds, silences and starts on boards and pages of any contents, and each command there is.
 
 use crate::calls::Calls;
-use crate::feeding::{self, Feed, Pair};
+use crate::feeding::{self, Given, Pair};
 use crate::group::{Outcome, Ran};
 use crate::lists::hex;
 use crate::records;
@@ -22,28 +22,29 @@ pub fn any(calls: &impl Calls, rng: &mut Rng, ran: &mut Ran) -> Outcome {
     };
     chunk.truncate(generate::chunk_length(rng));
     let pair = Pair { board: records::board(&plain), plain, page };
-    let given = Feed { port: generate::port(rng), chunk: &chunk, room: generate::room(rng) };
-    one(calls, &pair, &given, ran)
+    let given = Given::Feed { port: generate::port(rng), chunk: &chunk, room: generate::room(rng) };
+    one(calls, &pair, given, ran)
 }
 
-/// One feed, of the library and of its wrapper.
-pub fn one(calls: &impl Calls, before: &Pair, given: &Feed, ran: &mut Ran) -> Outcome {
+/// One call, of the library and of its wrapper.
+pub fn one(calls: &impl Calls, before: &Pair, given: Given, ran: &mut Ran) -> Outcome {
     let mut after = before.clone();
-    let fed = feeding::feed(calls, &mut after, given);
+    let fed = feeding::call(calls, &mut after, given);
     let compared = fed.and_then(|(fed, room)| {
         ran.count(fed.number);
-        feeding::feed_wrapped(calls, (before, &after), given, &fed, &room)
+        feeding::call_wrapped(calls, (before, &after), given, &fed, &room)
     });
     compared.map_err(|text| format!("{text}\n{}", shown(before, given)))
 }
 
-fn shown(before: &Pair, given: &Feed) -> String {
+fn shown(before: &Pair, given: Given) -> String {
     let [first, second] = &before.plain.ports;
+    let call = match given {
+        Given::Feed { port, chunk, room } => format!("feed port {port}, room {room}, chunk {}", hex(chunk)),
+        Given::Silence { port, room } => format!("silence of port {port}, room {room}"),
+    };
     format!(
-        "  feed port {}, room {}, chunk {}\n  page {}\n  port 0 holds {} of {}\n  port 1 holds {} of {}\n  {:?}",
-        given.port,
-        given.room,
-        hex(given.chunk),
+        "  {call}\n  page {}\n  port 0 holds {} of {}\n  port 1 holds {} of {}\n  {:?}",
         hex(&before.page),
         first.held,
         hex(&first.bytes),
@@ -106,8 +107,8 @@ pub fn holding_nothing(rng: &mut Rng, page: &[u8]) -> Pair {
 pub fn command(calls: &impl Calls, rng: &mut Rng, kind: u8, payload: &[u8], ran: &mut Ran) -> Outcome {
     let page = generate::sound_page(rng);
     let pair = holding_nothing(rng, &page);
-    let given = Feed { port: rng.below(2) as u8, chunk: &plain::message(kind, payload), room: Board::REPLY };
-    one(calls, &pair, &given, ran)
+    let given = Given::Feed { port: rng.below(2) as u8, chunk: &plain::message(kind, payload), room: Board::REPLY };
+    one(calls, &pair, given, ran)
 }
 
 /// Each type with each code; each code with payloads and size bytes that do not go together; each code of the board with

@@ -25,6 +25,16 @@ pub trait Wrapper {
         board.feed(port, chunk, room, page)
     }
 
+    fn wrapped_silence(
+        &self,
+        port: u8,
+        board: &mut Board,
+        room: &mut [u8],
+        page: &mut [u8],
+    ) -> Result<Outcome, Refusal> {
+        board.silence(port, room, page)
+    }
+
     fn wrapped_check_message(&self, message: &[u8]) -> Result<(), Refusal> {
         ketphiroj::check_message(message)
     }

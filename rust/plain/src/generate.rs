@@ -1,16 +1,17 @@
 //! Test material from a seed: messages, damaged ones, streams, chunks, pages, boards and lists of feeds; and the
 //! shrinking of a failing list. [`fields`] has the commands of several fields, and the replies to them, [`numbered`]
 //! the numbered commands, the pages that keep a number, and histories of feeds and restarts, [`ranges`] the gyroscope's
-//! ranges that this board no longer takes.
+//! ranges that this board no longer takes, [`silences`] false headers that hide commands, and lists with silences.
 //!
 //! The same seed gives the same material on every machine.
 
 pub mod fields;
 pub mod numbered;
 pub mod ranges;
+pub mod silences;
 
 use crate::message::payload_of;
-use crate::{feed, message, start, sums, write_page, Board, Port, Settings, Values};
+use crate::{feed, message, silence, start, sums, write_page, Answered, Board, Fed, Port, Settings, Sums, Values};
 
 /// Splitmix64.
 #[derive(Clone, Debug, PartialEq, Eq)]
@@ -171,29 +172,38 @@ pub fn command(rng: &mut Rng) -> Vec<u8> {
         _ if code == 0x02 => 0x01,
         _ => 0x02,
     };
-    let mut data = Vec::new();
-    if code != 0x02 || rng.chance(1, 6) {
-        let function = function(rng);
-        data.push(function);
-        let size = if code == 0x01 { 4 } else { 1 };
-        let value = value(rng, code).to_be_bytes();
-        match rng.below(8) {
-            // Too few or too many value bytes.
-            0 => {
-                let count = rng.below(8);
-                data.extend(rng.bytes(count));
-            }
-            // No value.
-            1 => {}
-            2..=4 if function != 1 => {}
-            _ => data.extend_from_slice(&value[4 - size..]),
-        }
-        if rng.chance(1, 20) {
-            data.clear();
-        }
-    }
+    let data = if code != 0x02 || rng.chance(1, 6) { field_data(rng, code) } else { Vec::new() };
     let mut payload = vec![code, data.len() as u8];
     payload.extend(data);
+    spoil_field(rng, &mut payload);
+    message(kind, &payload)
+}
+
+/// The data of a field: mostly a function, and a value where it takes one.
+fn field_data(rng: &mut Rng, code: u8) -> Vec<u8> {
+    let function = function(rng);
+    let mut data = vec![function];
+    let size = if code == 0x01 { 4 } else { 1 };
+    let value = value(rng, code).to_be_bytes();
+    match rng.below(8) {
+        // Too few or too many value bytes.
+        0 => {
+            let count = rng.below(8);
+            data.extend(rng.bytes(count));
+        }
+        // No value.
+        1 => {}
+        2..=4 if function != 1 => {}
+        _ => data.extend_from_slice(&value[4 - size..]),
+    }
+    if rng.chance(1, 20) {
+        data.clear();
+    }
+    data
+}
+
+/// Of payloads with one field changes one in three: its size byte, or its end.
+fn spoil_field(rng: &mut Rng, payload: &mut Vec<u8>) {
     match rng.below(24) {
         // The size byte lies.
         0 => payload[1] = payload[1].wrapping_add(1),
@@ -201,7 +211,7 @@ pub fn command(rng: &mut Rng) -> Vec<u8> {
         2 => payload[1] = rng.byte(),
         // More than one field, or a part of one.
         3 => payload.push(rng.byte()),
-        4 => payload.extend([code, 1, 2]),
+        4 => payload.extend([payload[0], 1, 2]),
         5 => {
             payload.pop();
         }
@@ -209,7 +219,6 @@ pub fn command(rng: &mut Rng) -> Vec<u8> {
         7 => payload.truncate(0),
         _ => {}
     }
-    message(kind, &payload)
 }
 
 /// Any type and any payload of 0 to 255 bytes; each length comes, the ends more often.
@@ -377,25 +386,12 @@ pub fn damage(rng: &mut Rng, mut bytes: Vec<u8>) -> Vec<u8> {
             let at = rng.below(end);
             bytes[at] = rng.byte();
         }
-        // Wrong sums: one off, each alone, swapped, of another modulus.
+        // Wrong sums: one off, each alone, swapped, of another modulus, without the opening.
         3 => bytes[end - 1] = bytes[end - 1].wrapping_sub(1),
         4 => bytes[end - 2] = bytes[end - 2].wrapping_add(1),
         5 => bytes.swap(end - 2, end - 1),
-        6 => {
-            let mut f1 = 0u32;
-            let mut f2 = 0u32;
-            for &byte in &bytes[..end - 2] {
-                f1 = (f1 + u32::from(byte)) % 255;
-                f2 = (f2 + f1) % 255;
-            }
-            bytes[end - 2] = f1 as u8;
-            bytes[end - 1] = f2 as u8;
-        }
-        7 => {
-            let f = sums(&bytes[2..end - 2]);
-            bytes[end - 2] = f.f1;
-            bytes[end - 1] = f.f2;
-        }
+        6 => replace_sums(&mut bytes, 0, sums_modulo_255),
+        7 => replace_sums(&mut bytes, 2, sums),
         // A wrong length byte: a little more, a little less, any.
         8 => bytes[3] = bytes[3].wrapping_add(rng.between(1, 4) as u8),
         9 => bytes[3] = bytes[3].wrapping_sub(rng.between(1, 4) as u8),
@@ -407,6 +403,23 @@ pub fn damage(rng: &mut Rng, mut bytes: Vec<u8>) -> Vec<u8> {
         }
     }
     bytes
+}
+
+/// The sums of a message become those that the function gives of its bytes, from this place to the end of the payload.
+fn replace_sums(bytes: &mut [u8], from: usize, sums_of: fn(&[u8]) -> Sums) {
+    let end = bytes.len();
+    let Sums { f1, f2 } = sums_of(&bytes[from..end - 2]);
+    bytes[end - 2..].copy_from_slice(&[f1, f2]);
+}
+
+/// The sums, but each wraps at 255.
+fn sums_modulo_255(bytes: &[u8]) -> Sums {
+    let (mut f1, mut f2) = (0, 0);
+    for &byte in bytes {
+        f1 = (f1 + u32::from(byte)) % 255;
+        f2 = (f2 + f1) % 255;
+    }
+    Sums { f1: f1 as u8, f2: f2 as u8 }
 }
 
 // What is no message.
@@ -829,11 +842,49 @@ pub fn any_calls(rng: &mut Rng, page: &[u8], pieces: usize) -> Vec<Call> {
     }
 }
 
-/// A step of a list: a feed, or a start anew on the page as it then is, as after a loss of power.
+/// A step of a list: a feed, a silence of a port with this length of room, or a start anew on the page as it then is, as
+/// after a loss of power.
 #[derive(Clone, Debug, PartialEq, Eq)]
 pub enum Step {
     Feed(Call),
+    Silence { port: u8, room: usize },
     Restart,
+}
+
+impl Step {
+    /// The port and the length of the room of a call; a restart has none.
+    pub fn port_and_room(&self) -> Option<(u8, usize)> {
+        match *self {
+            Step::Feed(Call { port, room, .. }) | Step::Silence { port, room } => Some((port, room)),
+            Step::Restart => None,
+        }
+    }
+
+    /// What a feed offers; a silence and a restart offer nothing.
+    pub fn chunk(&self) -> &[u8] {
+        match self {
+            Step::Feed(call) => &call.chunk,
+            Step::Silence { .. } | Step::Restart => &[],
+        }
+    }
+
+    /// What the plain reading answers on this board, where the step is a call. The room is of the step's length.
+    pub fn answer(&self, board: &Board, room: &mut [u8], page: &mut [u8]) -> Option<Fed> {
+        match self {
+            Step::Feed(call) => Some(feed(call.port, board, &call.chunk, room, page)),
+            Step::Silence { port, .. } => Some(silence(*port, board, room, page)),
+            Step::Restart => None,
+        }
+    }
+
+    /// The step with its answer, as [`drained`](crate::drained) reads it.
+    pub fn answered(&self, number: u8) -> Answered {
+        match *self {
+            Step::Feed(Call { port, .. }) => Answered::Feed { port, number },
+            Step::Silence { port, .. } => Answered::Silence { port, number },
+            Step::Restart => Answered::Restart,
+        }
+    }
 }
 
 /// A list of feeds of either kind; one list in three has restarts in it.
@@ -882,7 +933,7 @@ impl Shrinkable for Step {
     fn bytes(&mut self) -> Option<&mut Vec<u8>> {
         match self {
             Step::Feed(call) => call.bytes(),
-            Step::Restart => None,
+            Step::Silence { .. } | Step::Restart => None,
         }
     }
 

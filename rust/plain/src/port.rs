@@ -1,5 +1,5 @@
-//! Ports, the board, starting and feeding (01-013 to 01-025, 01-056, 01-084 to 01-088; 02-01.3, 02-02.5, 02-03.6,
-//! 02-05.3, 02-05.4).
+//! Ports, the board, starting, feeding and silences (01-013 to 01-025, 01-056, 01-084 to 01-088; 02-01.3, 02-02.5, 02-03.6,
+//! 02-05.3, 02-05.4, 02-06.1 to 02-06.3, 02-06.6, 02-06.8).
 
 use crate::handling::{handle, usable, Settings, ACCELEROMETER, BAUD, FACTORY, GYROSCOPE};
 use crate::message::{length_of, number_of, sums_right};
@@ -75,7 +75,8 @@ pub fn start_in_place(first: &mut [u8], second: &mut [u8], page: &[u8]) -> (u8, 
     (number, board.settings)
 }
 
-/// 01-023: "It answers the number, the bytes taken, the bytes skipped, whether a save was accepted, and the new board."
+/// 01-023: "It answers the number, the bytes taken, the bytes skipped, whether a save was accepted, and the new board." So
+/// does a silence, which takes no byte.
 #[derive(Clone, Debug, PartialEq, Eq)]
 pub struct Fed {
     pub number: u8,
@@ -117,7 +118,7 @@ fn look_at(held: &[u8]) -> Left {
     }
 }
 
-/// 01-084: "a feed 16 to 20"; 01-085: "Order as listed". 0 where none applies.
+/// 01-084: "a feed 16 to 20"; 01-085: "Order as listed". 02-06.8: "16 to 20 as for a feed." 0 where none applies.
 fn refusal(port: u8, board: &Board, room: &[u8], page: &[u8]) -> u8 {
     // "16 | port not 0 or 1"
     if port != 0 && port != 1 {
@@ -138,53 +139,82 @@ fn refusal(port: u8, board: &Board, room: &[u8], page: &[u8]) -> u8 {
 
 /// 01-021: "A feed names a port (0 or 1), the board, a chunk, a reply room and the page."
 pub fn feed(port: u8, board: &Board, chunk: &[u8], room: &mut [u8], page: &mut [u8]) -> Fed {
+    go_on(port, board, Undecided::Take(chunk), room, page)
+}
+
+/// 02-06.2: "The driver knows a silent line." 02-06.3: "a call for one port: the scan goes on over the held bytes". What it
+/// is not given is a chunk.
+pub fn silence(port: u8, board: &Board, room: &mut [u8], page: &mut [u8]) -> Fed {
+    go_on(port, board, Undecided::Skip, room, page)
+}
+
+/// What is done where the held bytes leave the scan undecided.
+#[derive(Clone, Copy)]
+enum Undecided<'a> {
+    /// 01-022: "It takes a byte from the chunk only when the held bytes leave the scan undecided,"
+    Take(&'a [u8]),
+    /// 02-06.3: "each time it is undecided the front byte is skipped with no error;"
+    Skip,
+}
+
+/// A feed, or a silence.
+fn go_on(port: u8, board: &Board, undecided: Undecided, room: &mut [u8], page: &mut [u8]) -> Fed {
     // "A refusal takes 0 bytes, skips 0, returns the board given [..] and writes nothing."
     let refused = refusal(port, board, room, page);
     if refused != number::DONE {
         return Fed { number: refused, taken: 0, skipped: 0, saved: false, board: *board };
     }
 
-    let fed = &board.ports[usize::from(port)];
-    let mut held: Vec<u8> = fed.bytes[..fed.held].to_vec();
+    let named = &board.ports[usize::from(port)];
+    let Stopped { message, taken, skipped, held } = scan_on(named.bytes[..named.held].to_vec(), undecided);
+    let board = with_held(board, port, &held);
+    let Some(message) = message else {
+        return Fed { number: number::USED_UP, taken, skipped, saved: false, board };
+    };
+    let (saved, settings) = report(port, &message, board.settings, room, page);
+    Fed { number: number::DONE, taken, skipped, saved, board: Board { settings, ..board } }
+}
+
+/// Where the scan stopped: the message that was reported, if one was, what was taken and skipped, and what is held.
+struct Stopped {
+    message: Option<Vec<u8>>,
+    taken: usize,
+    skipped: usize,
+    held: Vec<u8>,
+}
+
+fn scan_on(mut held: Vec<u8>, undecided: Undecided) -> Stopped {
     let mut taken = 0;
     let mut skipped = 0;
-    loop {
-        match look_at(&held) {
-            Left::Skip => {
+    let message = loop {
+        match (look_at(&held), undecided) {
+            // "and stops at the first reported message"
+            (Left::Good(whole), _) => break Some(held.drain(..whole).collect()),
+            (Left::Damaged(whole), _) => {
+                let message = held[..whole].to_vec();
                 held.remove(0);
                 skipped += 1;
+                break Some(message);
             }
-            // "It takes a byte from the chunk only when the held bytes leave the scan undecided,"
-            Left::Undecided if taken < chunk.len() => {
+            (Left::Undecided, Undecided::Take(chunk)) if taken < chunk.len() => {
                 held.push(chunk[taken]);
                 taken += 1;
             }
-            // "and stops [..] at the chunk's end."
-            Left::Undecided => {
-                let board = with_held(board, port, &held);
-                return Fed { number: number::USED_UP, taken, skipped, saved: false, board };
-            }
-            // "and stops at the first reported message"
-            Left::Good(whole) => {
-                let message: Vec<u8> = held.drain(..whole).collect();
-                let (saved, settings) = report(port, &message, board.settings, room, page);
-                let board = Board { settings, ..with_held(board, port, &held) };
-                return Fed { number: number::DONE, taken, skipped, saved, board };
-            }
-            Left::Damaged(whole) => {
-                let message: Vec<u8> = held[..whole].to_vec();
+            // "or at the chunk's end."
+            (Left::Undecided, Undecided::Take(_)) => break None,
+            // 02-06.3: "or when nothing is held (1)."
+            (Left::Undecided, Undecided::Skip) if held.is_empty() => break None,
+            (Left::Undecided, Undecided::Skip) | (Left::Skip, _) => {
                 held.remove(0);
                 skipped += 1;
-                let (saved, settings) = report(port, &message, board.settings, room, page);
-                let board = Board { settings, ..with_held(board, port, &held) };
-                return Fed { number: number::DONE, taken, skipped, saved, board };
             }
         }
-    }
+    };
+    Stopped { message, taken, skipped, held }
 }
 
 /// 01-024: "After every accepted feed the fed port's room past its held bytes is zero, and the other port's record is
-/// as it came."
+/// as it came." The same holds after every accepted silence.
 fn with_held(board: &Board, port: u8, held: &[u8]) -> Board {
     let mut bytes = [0; 260];
     bytes[..held.len()].copy_from_slice(held);
@@ -199,7 +229,7 @@ fn with_held(board: &Board, port: u8, held: &[u8]) -> Board {
 /// 01-088: "A write to a room touches only the message's own bytes, from the room's front; a save writes the 64 bytes
 /// of the page." 02-03.9: "The page now changes on accepted saves and on fresh numbers".
 fn report(port: u8, message: &[u8], settings: Settings, room: &mut [u8], page: &mut [u8]) -> (bool, Settings) {
-    let values = values(page).expect("the page of an accepted feed is blank or sound");
+    let values = values(page).expect("the page of an accepted call is blank or sound");
     let handled = handle(port, message, settings, values);
     room[..handled.reply.len()].copy_from_slice(&handled.reply);
     if handled.saved {

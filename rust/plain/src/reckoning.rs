@@ -1,17 +1,21 @@
-//! The plain reckoning (01-057 to 01-068; 02-02.5, 02-02.6, 02-03.9, 02-05.3), with restarts (02-03.10).
+//! The plain reckoning (01-057 to 01-068; 02-02.5, 02-02.6, 02-03.9, 02-05.3), with restarts (02-03.10) and silences
+//! (02-06.4, 02-06.5); and which lists demand 3 is about.
 
 use crate::handling::{handle, loaded, Settings, ACCELEROMETER, BAUD, FACTORY, GYROSCOPE};
 use crate::number;
 use crate::page::{values, write_page, Values};
-use crate::scan::{scan, Event};
+use crate::scan::{scan_marked, Event};
 
 /// 01-060: "It keeps, for each port, all bytes taken and the count n of messages reported, at first none and 0".
 ///
 /// The number of the port's last accepted feed says where the scan then stood; it is kept for "since that port's last
 /// accepted feed" (01-067). Before any feed nothing is left, as with number 1.
+///
+/// 02-06.4: "a stream with silence marks": each is the count of bytes taken before it.
 #[derive(Clone, Debug, PartialEq, Eq)]
 struct Stream {
     taken: Vec<u8>,
+    marks: Vec<usize>,
     n: usize,
     last: u8,
 }
@@ -28,7 +32,7 @@ impl Stream {
     fn standing(&self) -> Standing {
         let mut standing = Standing { place: 0, skipped: 0 };
         let mut messages = 0;
-        for event in scan(&self.taken) {
+        for event in scan_marked(&self.taken, &self.marks) {
             if self.last == number::DONE && messages == self.n {
                 break;
             }
@@ -42,7 +46,7 @@ impl Stream {
     }
 }
 
-/// What the reckoning says of one feed.
+/// What the reckoning says of one feed, or of one silence.
 #[derive(Clone, Debug, PartialEq, Eq)]
 pub struct Reckoned {
     pub number: u8,
@@ -53,6 +57,13 @@ pub struct Reckoned {
     pub reply: Vec<u8>,
 }
 
+impl Reckoned {
+    /// "no reply and no save"
+    fn without_reply(number: u8, taken: usize, skipped: usize) -> Reckoned {
+        Reckoned { number, taken, skipped, saved: false, reply: Vec::new() }
+    }
+}
+
 #[derive(Clone, Debug, PartialEq, Eq)]
 pub struct Reckoning {
     ports: [Stream; 2],
@@ -61,7 +72,7 @@ pub struct Reckoning {
 }
 
 /// "A feed that the table below refuses with 16 or 18 gets the first of them that applies, no reply and no save, takes
-/// and skips 0 bytes and changes nothing."
+/// and skips 0 bytes and changes nothing." 02-06.8: "16 to 20 as for a feed."
 fn refusal(port: u8, room_length: usize) -> Option<u8> {
     if port != 0 && port != 1 {
         return Some(number::PORT);
@@ -78,7 +89,7 @@ impl Reckoning {
     /// accepts, so the page is blank or sound; no other page has values to reckon with.
     pub fn new(page: &[u8]) -> Reckoning {
         let values = values(page).expect("the reckoning begins with a blank or sound page");
-        let empty = Stream { taken: Vec::new(), n: 0, last: number::USED_UP };
+        let empty = Stream { taken: Vec::new(), marks: Vec::new(), n: 0, last: number::USED_UP };
         // "the working values, set as starting sets them; and the page's values, one or none under each code." 02-05.3:
         // "starting uses the factory value" where the page's is no longer taken.
         let started = |code: u8| loaded(code, &values).unwrap_or(FACTORY.value(code));
@@ -91,20 +102,41 @@ impl Reckoning {
 
     /// "then each feed's port, chunk and length of room, and nothing of the program's answers or records."
     pub fn feed(&mut self, port: u8, chunk: &[u8], room_length: usize) -> Reckoned {
-        if let Some(number) = refusal(port, room_length) {
-            return Reckoned { number, taken: 0, skipped: 0, saved: false, reply: Vec::new() };
+        match refusal(port, room_length) {
+            Some(number) => Reckoned::without_reply(number, 0, 0),
+            None => {
+                let skipped_before = self.ports[usize::from(port)].standing().skipped;
+                self.accept(port, chunk, skipped_before)
+            }
         }
+    }
 
-        // "Otherwise it is accepted:"
+    /// 02-06.5: "In the plain reckoning an accepted silence marks the end of that port's bytes, then goes as an empty feed."
+    pub fn silence(&mut self, port: u8, room_length: usize) -> Reckoned {
+        match refusal(port, room_length) {
+            Some(number) => Reckoned::without_reply(number, 0, 0),
+            None => {
+                let stream = &mut self.ports[usize::from(port)];
+                // The bytes that the mark makes the scan skip are this call's, so the count is from before the mark.
+                let skipped_before = stream.standing().skipped;
+                stream.marks.push(stream.taken.len());
+                self.accept(port, &[], skipped_before)
+            }
+        }
+    }
+
+    /// "Otherwise it is accepted:" a feed, or a silence that has made its mark. Given is how many bytes the scan had skipped
+    /// before.
+    fn accept(&mut self, port: u8, chunk: &[u8], skipped_before: usize) -> Reckoned {
         let stream = &mut self.ports[usize::from(port)];
-        let skipped_before = stream.standing().skipped;
 
         // "Take the shortest beginning of the chunk, the empty one too, with which the scan of all that port's bytes
         // finds more than n messages, good and damaged."
         for taken in 0..=chunk.len() {
             let mut all = stream.taken.clone();
             all.extend_from_slice(&chunk[..taken]);
-            let found: Vec<(usize, usize)> = scan(&all).iter().filter_map(Event::message).collect();
+            let events = scan_marked(&all, &stream.marks);
+            let found: Vec<(usize, usize)> = events.iter().filter_map(Event::message).collect();
             if found.len() > stream.n {
                 // "Message n + 1 is handled as above on the values kept; its reply and save mark are the feed's, the
                 // number is 0, and n grows by one." 02-02.6: "Demand 3 handles such a message as one." 02-03.9: "demand
@@ -127,7 +159,7 @@ impl Reckoning {
         stream.taken.extend_from_slice(chunk);
         stream.last = number::USED_UP;
         let skipped = stream.standing().skipped - skipped_before;
-        Reckoned { number: number::USED_UP, taken: chunk.len(), skipped, saved: false, reply: Vec::new() }
+        Reckoned::without_reply(number::USED_UP, chunk.len(), skipped)
     }
 
     /// A restart, of which 02-03.10 has "any history of feeds and restarts over one page": the board starts anew on the
@@ -149,5 +181,53 @@ impl Reckoning {
     /// "The page is the writing of its values, blank with none."
     pub fn page(&self) -> [u8; 64] {
         write_page(&self.values)
+    }
+}
+
+/// A step of a list, and the number that the call was answered with.
+#[derive(Clone, Copy, Debug, PartialEq, Eq)]
+pub enum Answered {
+    Feed { port: u8, number: u8 },
+    Silence { port: u8, number: u8 },
+    Restart,
+}
+
+/// 02-06.4: whether this is one of the "lists in which each accepted silence is drained to answer 1 before a feed of that
+/// port is accepted again": those that demand 3 is about.
+pub fn drained(list: &[Answered]) -> bool {
+    let mut draining = Draining::default();
+    list.iter().all(|&answered| draining.allows(answered))
+}
+
+/// Of each port, whether its last accepted silence answered 0: it is then not drained yet.
+#[derive(Clone, Copy, Debug, Default, PartialEq, Eq)]
+pub struct Draining([bool; 2]);
+
+impl Draining {
+    /// Whether a port is to be drained before a feed of it is accepted. One that is neither 0 nor 1 never is.
+    pub fn must_drain(&self, port: u8) -> bool {
+        self.0.get(usize::from(port)) == Some(&true)
+    }
+
+    /// Whether a list that was drained so far still is with this step, which is the next.
+    ///
+    /// A silence that answers 1 is drained by itself. A restart leaves nothing held, so nothing has to be drained. What is
+    /// answered of a port that is neither 0 nor 1 has no part in it.
+    pub fn allows(&mut self, answered: Answered) -> bool {
+        let (port, number) = match answered {
+            Answered::Restart => {
+                self.0 = [false; 2];
+                return true;
+            }
+            Answered::Feed { port, number } | Answered::Silence { port, number } => (port, number),
+        };
+        let Some(draining) = self.0.get_mut(usize::from(port)).filter(|_| number::accepted(number)) else {
+            return true;
+        };
+        match answered {
+            Answered::Silence { .. } => *draining = number == number::DONE,
+            _ => return !*draining,
+        }
+        true
     }
 }

@@ -231,17 +231,17 @@ impl Reached {
         let (_, mut board) = start(&page);
         let mut restarted = false;
         for step in list {
-            let Step::Feed(call) = step else {
+            let Some((port, room)) = step.port_and_room() else {
                 board = start(&page).1;
                 self.restarts += 1;
                 restarted = true;
                 continue;
             };
-            let mut room = vec![0; call.room];
-            let fed = feed(call.port, &board, &call.chunk, &mut room, &mut page);
+            let mut room = vec![0; room];
+            let fed = step.answer(&board, &mut room, &mut page).expect("a call is answered");
             board = fed.board;
             if fed.number == 0 {
-                self.rows.insert((call.port, room[2], room[7]));
+                self.rows.insert((port, room[2], room[7]));
                 self.fresh += usize::from(fed.saved && room[2] == 0x7C);
                 self.stale_after_restart += usize::from(restarted && room[2] == 0x7C && room[7] == 5);
             }

@@ -497,32 +497,18 @@ fn run(page: &[u8], list: &[Step]) -> Result<Vec<u32>, String> {
     let mut both = Both::new(page);
     let mut accepted = Vec::new();
     for step in list {
-        let Step::Feed(call) = step else {
-            both.restart();
+        let unread = common::unread(&both.board, step);
+        let before = both.page.clone();
+        let Some(answer) = both.try_step(step)? else {
             continue;
         };
-        let port = usize::from(call.port);
-        let held = both.board.ports.get(port).map_or(Vec::new(), |port| port.bytes[..port.held].to_vec());
-        let before = both.page.clone();
-        let answer = both.try_feed(call.port, &call.chunk, call.room)?;
         if !answer.saved {
             common::same("page without the mark", &both.page, &before)?;
         }
-        if answer.number == 0 && answer.reply[2] == 0x7C {
-            let bytes = [&held[..], &call.chunk[..answer.taken]].concat();
-            let message = scan(&bytes).iter().find_map(Event::message).expect("a message was reported");
-            accepted.extend(number_accepted(&bytes[message.0..message.0 + message.1], &answer.reply));
-        }
+        accepted.extend(common::number_accepted(&unread, step, &answer.reply));
     }
     both.compare_state()?;
     Ok(accepted)
-}
-
-/// The number of a message of type 7C, if it is accepted: its sums are right, it has a number and a type, and the reply is
-/// not error 5.
-fn number_accepted(message: &[u8], reply: &[u8]) -> Option<u32> {
-    let accepted = check_message(message) == 0 && message[3] >= 5 && reply[7] != 5;
-    accepted.then(|| u32::from_be_bytes(message[4..8].try_into().unwrap()))
 }
 
 /// 02-03.10: "No number is accepted twice in any history of feeds and restarts over one page that begins blank or sound,

@@ -1,4 +1,4 @@
-//! Numbered commands, whole and wrong, pages that keep a number, and histories of feeds and restarts over one page.
+//! Numbered commands, whole and wrong, pages that keep a number, and histories of feeds, silences and restarts over one page.
 //!
 //! They stand beside the generators of commands without a number, whose material is not to change.
 
@@ -7,7 +7,7 @@ use super::{
 };
 use super::{code, value, Board, Call, Rng, Step};
 use crate::message::{bytes_of, number_of, payload_of};
-use crate::{check_message, feed, message, start, write_page, Values};
+use crate::{check_message, feed, message, silence, start, write_page, Draining, Fed, Port, Values};
 
 // Numbers.
 
@@ -199,9 +199,20 @@ pub fn page(rng: &mut Rng) -> Vec<u8> {
 /// What makes a piece for a board whose page keeps this number.
 pub type PieceOf = fn(&mut Rng, Option<u32>) -> Vec<u8>;
 
-/// What a history has come to, told by the plain feed.
+/// Which silences stand in a history.
+#[derive(Clone, Copy, Debug, PartialEq, Eq)]
+pub enum Silences {
+    None,
+    /// Each accepted one is drained to answer 1 before a feed of that port is accepted again.
+    Drained,
+    Anywhere,
+}
+
+/// What a history has come to, told by the plain feed and the plain silence.
 struct History {
     piece: PieceOf,
+    silences: Silences,
+    draining: Draining,
     board: Board,
     page: Vec<u8>,
     /// What each port has still to be given.
@@ -226,6 +237,7 @@ impl History {
     /// A start anew on the page as it stands. What a port held is lost; what it was still to be given may be, too.
     fn restart(&mut self, rng: &mut Rng) {
         self.board = start(&self.page).1;
+        self.draining = Draining::default();
         if rng.chance(1, 2) {
             self.waiting = [Vec::new(), Vec::new()];
         }
@@ -235,35 +247,70 @@ impl History {
     /// A feed of a beginning of what waits for a port. What it takes is given; the rest waits on.
     fn feed(&mut self, rng: &mut Rng, port: u8) {
         let (room, length) = (room(rng), chunk_length(rng));
+        let room = if self.must_drain(port) { room % Port::LONGEST_REPLY } else { room };
         let chunk = match self.waiting.get(usize::from(port)) {
             Some(rest) => rest[..length.min(rest.len())].to_vec(),
             None => rng.bytes(3),
         };
         let fed = feed(port, &self.board, &chunk, &mut vec![0; room], &mut self.page);
-        self.board = fed.board;
         if let Some(rest) = self.waiting.get_mut(usize::from(port)) {
             rest.drain(..fed.taken);
         }
-        self.steps.push(Step::Feed(Call { port, chunk, room }));
+        self.answered(Step::Feed(Call { port, chunk, room }), fed);
+    }
+
+    fn silence(&mut self, rng: &mut Rng, port: u8) {
+        let room = room(rng);
+        let fed = silence(port, &self.board, &mut vec![0; room], &mut self.page);
+        self.answered(Step::Silence { port, room }, fed);
+    }
+
+    /// A call more, and its answer.
+    fn answered(&mut self, call: Step, fed: Fed) {
+        let drained = self.draining.allows(call.answered(fed.number));
+        assert!(drained || self.silences == Silences::Anywhere, "a feed is accepted before its port is drained");
+        self.board = fed.board;
+        self.steps.push(call);
+    }
+
+    /// Whether a port of a drained history is to be drained before a feed of it is accepted.
+    fn must_drain(&self, port: u8) -> bool {
+        self.silences == Silences::Drained && self.draining.must_drain(port)
+    }
+
+    /// Whether the next call of a port is a silence: more often where nothing waits for it, as on a line that is silent
+    /// because all was sent. Now and then a feed comes even while the port is to be drained; it is then refused.
+    fn is_silent(&self, rng: &mut Rng, port: u8) -> bool {
+        let waits = self.waiting.get(usize::from(port)).is_some_and(|rest| !rest.is_empty());
+        match self.silences {
+            Silences::None => false,
+            _ if self.must_drain(port) => rng.chance(7, 8),
+            _ => rng.chance(1, if waits { 8 } else { 2 }),
+        }
     }
 }
 
 /// A list of feeds and restarts over one page, which is blank or sound: so many pieces, on both ports, with numbers about
 /// the one that the page keeps at the time, and with pieces that are sent again, before and after restarts.
 pub fn history(rng: &mut Rng, page: &[u8], pieces: usize) -> Vec<Step> {
-    history_of(rng, page, pieces, numbered_piece)
+    history_of(rng, page, pieces, numbered_piece, Silences::None)
 }
 
-/// Such a list of these pieces.
-pub fn history_of(rng: &mut Rng, page: &[u8], pieces: usize, piece: PieceOf) -> Vec<Step> {
+/// Such a list of these pieces, with these silences.
+pub fn history_of(rng: &mut Rng, page: &[u8], pieces: usize, piece: PieceOf, silences: Silences) -> Vec<Step> {
     let (board, page, waiting) = (start(page).1, page.to_vec(), [Vec::new(), Vec::new()]);
-    let mut history = History { piece, board, page, waiting, sent: Vec::new(), steps: Vec::new() };
+    let (sent, steps, draining) = (Vec::new(), Vec::new(), Draining::default());
+    let mut history = History { piece, silences, draining, board, page, waiting, sent, steps };
     let mut left = pieces;
     // Even if each feed were refused, the list ends.
     let most = 40 + 60 * pieces;
     while history.steps.len() < most {
         let port = port(rng);
         let named = usize::from(port);
+        if history.is_silent(rng, port) {
+            history.silence(rng, port);
+            continue;
+        }
         if left > 0 && history.waiting.get(named).is_some_and(Vec::is_empty) {
             history.give(rng, named);
             left -= 1;

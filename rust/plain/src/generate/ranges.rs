@@ -1,7 +1,7 @@
 //! The gyroscope's ranges that this board no longer takes: commands with them, pages that hold them, and histories of feeds
 //! and restarts over such pages.
 
-use super::numbered::{self, history_of, numbered};
+use super::numbered::{self, history_of, numbered, Silences};
 use super::{fields, Rng, Step};
 use crate::{message, write_page, Values};
 
@@ -52,5 +52,5 @@ pub fn old_page(rng: &mut Rng) -> [u8; 64] {
 
 /// A list of feeds and restarts over one page, with commands of the gyroscope's range.
 pub fn history(rng: &mut Rng, page: &[u8], pieces: usize) -> Vec<Step> {
-    history_of(rng, page, pieces, piece)
+    history_of(rng, page, pieces, piece, Silences::None)
 }

@@ -2,7 +2,8 @@
 
 #![allow(dead_code)]
 
-use plain::{feed, start, Board, Fed, Port, Reckoned, Reckoning};
+use plain::generate::Step;
+use plain::{check_message, feed, scan_marked, silence, start, Board, Event, Fed, Port, Reckoned, Reckoning};
 
 /// "Blanks are only for the eye."
 pub fn hex(text: &str) -> Vec<u8> {
@@ -74,11 +75,47 @@ impl Both {
 
     /// Feeds both and compares the answers and the room, byte for byte.
     pub fn try_feed(&mut self, port: u8, chunk: &[u8], room_length: usize) -> Result<Answer, String> {
+        self.compare(
+            (port, room_length),
+            |board, room, page| feed(port, board, chunk, room, page),
+            |reckoning| reckoning.feed(port, chunk, room_length),
+        )
+    }
+
+    /// A silence of both, compared in the same way. Nothing is taken.
+    pub fn try_silence(&mut self, port: u8, room_length: usize) -> Result<Answer, String> {
+        let answer = self.compare(
+            (port, room_length),
+            |board, room, page| silence(port, board, room, page),
+            |reckoning| reckoning.silence(port, room_length),
+        )?;
+        same("taken by a silence", &answer.taken, &0)?;
+        Ok(answer)
+    }
+
+    /// A step of a list; a restart has no answer.
+    pub fn try_step(&mut self, step: &Step) -> Result<Option<Answer>, String> {
+        match step {
+            Step::Feed(call) => self.try_feed(call.port, &call.chunk, call.room).map(Some),
+            Step::Silence { port, room } => self.try_silence(*port, *room).map(Some),
+            Step::Restart => {
+                self.restart();
+                Ok(None)
+            }
+        }
+    }
+
+    fn compare(
+        &mut self,
+        (port, room_length): (u8, usize),
+        call: impl FnOnce(&Board, &mut [u8], &mut [u8]) -> Fed,
+        reckon: impl FnOnce(&mut Reckoning) -> Reckoned,
+    ) -> Result<Answer, String> {
         let filling = 0x5C;
         let mut room = vec![filling; room_length];
         let before = self.board;
-        let Fed { number, taken, skipped, saved, board } = feed(port, &self.board, chunk, &mut room, &mut self.page);
-        let reckoned = self.reckoning.feed(port, chunk, room_length);
+        let Fed { number, taken, skipped, saved, board } = call(&self.board, &mut room, &mut self.page);
+        let reckoned = reckon(&mut self.reckoning);
         self.board = board;
 
         let reply_length = if number == 0 { usize::from(room[3]) + 6 } else { 0 };
@@ -103,6 +140,21 @@ impl Both {
         answer
     }
 
+    pub fn silence(&mut self, port: u8) -> Answer {
+        let answer = self.try_silence(port, Port::LONGEST_REPLY).unwrap();
+        self.compare_state().unwrap();
+        answer
+    }
+
+    /// Silences of a port until one answers 1. Gives them all.
+    pub fn drain(&mut self, port: u8) -> Vec<Answer> {
+        let mut answers = vec![self.silence(port)];
+        while answers[answers.len() - 1].number == 0 {
+            answers.push(self.silence(port));
+        }
+        answers
+    }
+
     pub fn held(&self, port: usize) -> usize {
         self.board.ports[port].held
     }
@@ -114,4 +166,24 @@ pub fn same<T: PartialEq + std::fmt::Debug + ?Sized>(what: &str, left: &T, right
     } else {
         Err(format!("{what}: fed {left:02X?}, reckoned {right:02X?}"))
     }
+}
+
+/// What a port holds, and behind it what the step offers. Empty where there is no such port.
+pub fn unread(board: &Board, step: &Step) -> Vec<u8> {
+    let named = step.port_and_room().and_then(|(port, _)| board.ports.get(usize::from(port)));
+    named.map_or(Vec::new(), |port| [&port.bytes[..port.held], step.chunk()].concat())
+}
+
+/// The number that a step accepted, if it did: it reported a good message of type 7C that has a number and a type, and the
+/// reply is not error 5. The message is the first one that the scan finds in what was unread.
+pub fn number_accepted(unread: &[u8], step: &Step, reply: &[u8]) -> Option<u32> {
+    if reply.is_empty() || reply[2] != 0x7C || reply[7] == 5 {
+        return None;
+    }
+    let marks: &[usize] = if matches!(step, Step::Silence { .. }) { &[unread.len()] } else { &[] };
+    let events = scan_marked(unread, marks);
+    let (place, length) = events.iter().find_map(Event::message).expect("a message was reported");
+    let message = &unread[place..place + length];
+    let accepted = check_message(message) == 0 && message[3] >= 5;
+    accepted.then(|| u32::from_be_bytes(message[4..8].try_into().unwrap()))
 }
