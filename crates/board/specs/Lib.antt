@@ -5,6 +5,7 @@ pub mod Feed
 pub mod Handling
 pub mod Histories
 pub mod InPlace
+pub mod Lines
 pub mod Older
 pub mod Place
 pub mod Port

@@ -12,7 +12,7 @@ use Rattle.page.specs.Page.{filled, blankPage}
 use Rattle.board.specs.Start.{freshBoard}
 use Rattle.board.specs.Feed.{feedOf}
 use Rattle.board.specs.AnyBoard.{isSound}
-use Rattle.board.specs.Examples.{Line, plain, marks, numbered, sets, does, row, rowWith, working, linesFor}
+use Rattle.board.specs.Lines.{Line, plain, marks, numbered, sets, does, row, rowWith, working, linesFor}
 
 -- ---- pages
 

@@ -12,7 +12,7 @@ use Rattle.board.specs.Samples.{Out, ends}
 use Rattle.board.specs.Histories.{actsOn}
 use Rattle.board.specs.Restarts.{toldActs}
 use Rattle.board.specs.Theorems.{answersOf}
-use Rattle.board.specs.Examples.{Sent, Line, plain, numbered, spoiled, ping, sets, does, row, working, numberPage, actsFor, linesFor}
+use Rattle.board.specs.Lines.{Sent, Line, plain, numbered, spoiled, ping, sets, does, row, working, numberPage, actsFor, linesFor}
 
 -- The first four bytes of a message of 261 bytes that does not come.
 abbrev falseHeader : List ℕ

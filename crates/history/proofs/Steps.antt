@@ -23,7 +23,7 @@ use Rattle.stream.proofs.Drains.{drain}
 use Rattle.stream.proofs.Events.{messages-append, skippedIn-append, messages-skipsThen, skippedIn-skipsThen, standing-skipsThen}
 use Rattle.stream.proofs.Events.{messages-skips, skippedIn-skips, goodIn-skips}
 use Rattle.stream.proofs.Scans.{starved-is}
-use Rattle.history.specs.Calls.{Input, fed, silent, Call, refuse, State, Turn, portOf, accept}
+use Rattle.history.specs.Calls.{Input, fed, silent, Call, Step, refuse, State, Turn, portOf, accept}
 use Rattle.history.specs.Reckoning.{Outcome, Ledger, marked, shortest, handleNext, usedUp, reckonOn, reckonFeed, reckonCall, reckonStep}
 use Rattle.history.specs.Program.{Tests, heldOn, heldCall, heldStep}
 use Rattle.history.specs.Drained.{Undrained, undrainedOf, undrainedBy, undrainedAfter, early}
@@ -222,52 +222,48 @@ module _ {front : List ℕ → Verdict} {mostHeld : ℕ} (C : Cutting front most
         H .passes (s .values) (t .values) (r .values),
       )
 
+  -- A call with its two tests that can refuse, a wrong port and a room that is too small, on both sides.
+  module _ (s : State Ledger X) (t : State (List ℕ) W) (c : Call) where
+    abbrev reckonedTurn : Turn Ledger X
+    reckonedTurn = reckonCall front reckoned (c .port) (portOf (c .port) s) (s .values) (c .input)
+
+    abbrev heldTurn : Turn (List ℕ) W
+    heldTurn = heldCall front handle (c .port) (portOf (c .port) t) (t .values) (c .input)
+
+    abbrev reckonedBy : Bool → Bool → Step (State Ledger X)
+    reckonedBy a b = refuse a 16 s (refuse b 18 s (accept (c .port) s reckonedTurn))
+
+    abbrev heldBy : Bool → Bool → Step (State (List ℕ) W)
+    heldBy a b = refuse a 16 t (refuse b 18 t (accept (c .port) t heldTurn))
+
+    tested-related : (u : Undrained) → Related (Tracks C) L u s t → (a b : Bool)
+        → early (c .input) (reckonedBy a b .answer .number) (undrainedOf (c .port) u) ≡ false
+        → Stepped (Related (Tracks C) L) (undrainedAfter c (reckonedBy a b .answer .number) u) (reckonedBy a b) (heldBy a b)
+    tested-related u r true b e = record { answer = refl; state = rw (undrained-kept (c .port) (c .input) 14 u) r }
+    tested-related u r false true e = record { answer = refl; state = rw (undrained-kept (c .port) (c .input) 16 u) r }
+    tested-related u r false false e =
+        let h : Alike (Tracks C) L (undrainedBy (c .input) (reckonedTurn .answer .number) (undrainedOf (c .port) u)) reckonedTurn heldTurn =
+        call-alike (undrainedOf (c .port) u) (c .port) (portOf (c .port) s) (portOf (c .port) t) (s .values) (t .values) (c .input)
+        (port-related (Tracks C) L (c .port) u s t r) (r .values) e in
+        record { answer = h .answer; state = settled-related (Tracks C) L (c .port) _ u s t reckonedTurn heldTurn r h }
+
+    tested-early : (u : Undrained) (a b : Bool)
+        → early (c .input) (heldBy a b .answer .number) (undrainedOf (c .port) u) ≡ early (c .input) (reckonedBy a b .answer .number) (undrainedOf (c .port) u)
+    tested-early u true b = refl
+    tested-early u false true = refl
+    tested-early u false false = early-alike (c .port) (portOf (c .port) s) (portOf (c .port) t) (s .values) (t .values) (c .input) (undrainedOf (c .port) u)
+
   pub step-related : (room : ℕ) (u : Undrained) (s : State Ledger X) (t : State (List ℕ) W) (c : Call) → Related (Tracks C) L u s t
       → early (c .input) (reckonStep front reckoned room s c .answer .number) (undrainedOf (c .port) u) ≡ false
       → Stepped (Related (Tracks C) L) (undrainedAfter c (reckonStep front reckoned room s c .answer .number) u)
       (reckonStep front reckoned room s c) (heldStep front handle mostHeld room tests t c)
   unfolding reckonStep heldStep
-  step-related room u s t c r = rw (fit u s t r, H .passes (s .values) (t .values) (r .values)) (go (ltb 1 (c .port)) (ltb (c .room) room))
-    where
-      p : ℕ
-      p = c .port
-
-      x : Turn Ledger X
-      x = reckonCall front reckoned p (portOf p s) (s .values) (c .input)
-
-      y : Turn (List ℕ) W
-      y = heldCall front handle p (portOf p t) (t .values) (c .input)
-
-      go : (a b : Bool)
-          → early (c .input) (refuse a 16 s (refuse b 18 s (accept p s x)) .answer .number) (undrainedOf p u) ≡ false
-          → Stepped (Related (Tracks C) L) (undrainedAfter c (refuse a 16 s (refuse b 18 s (accept p s x)) .answer .number) u)
-          (refuse a 16 s (refuse b 18 s (accept p s x))) (refuse a 16 t (refuse b 18 t (accept p t y)))
-      go true b e = record { answer = refl; state = rw (undrained-kept p (c .input) 14 u) r }
-      go false true e = record { answer = refl; state = rw (undrained-kept p (c .input) 16 u) r }
-      go false false e =
-          let h : Alike (Tracks C) L (undrainedBy (c .input) (x .answer .number) (undrainedOf p u)) x y =
-          call-alike (undrainedOf p u) p (portOf p s) (portOf p t) (s .values) (t .values) (c .input)
-          (port-related (Tracks C) L p u s t r) (r .values) e in
-          record { answer = h .answer; state = settled-related (Tracks C) L p _ u s t x y r h }
+  step-related room u s t c r =
+      rw (fit u s t r, H .passes (s .values) (t .values) (r .values)) (tested-related s t c u r (ltb 1 (c .port)) (ltb (c .room) room))
 
   pub step-early : (room : ℕ) (u : Undrained) (s : State Ledger X) (t : State (List ℕ) W) (c : Call) → Related (Tracks C) L u s t
       → early (c .input) (heldStep front handle mostHeld room tests t c .answer .number) (undrainedOf (c .port) u)
       ≡ early (c .input) (reckonStep front reckoned room s c .answer .number) (undrainedOf (c .port) u)
   unfolding reckonStep heldStep
-  step-early room u s t c r = rw (fit u s t r, H .passes (s .values) (t .values) (r .values)) (go (ltb 1 (c .port)) (ltb (c .room) room))
-    where
-      p : ℕ
-      p = c .port
-
-      x : Turn Ledger X
-      x = reckonCall front reckoned p (portOf p s) (s .values) (c .input)
-
-      y : Turn (List ℕ) W
-      y = heldCall front handle p (portOf p t) (t .values) (c .input)
-
-      go : (a b : Bool)
-          → early (c .input) (refuse a 16 t (refuse b 18 t (accept p t y)) .answer .number) (undrainedOf p u)
-          ≡ early (c .input) (refuse a 16 s (refuse b 18 s (accept p s x)) .answer .number) (undrainedOf p u)
-      go true b = refl
-      go false true = refl
-      go false false = early-alike p (portOf p s) (portOf p t) (s .values) (t .values) (c .input) (undrainedOf p u)
+  step-early room u s t c r =
+      rw (fit u s t r, H .passes (s .values) (t .values) (r .values)) (tested-early s t c u (ltb 1 (c .port)) (ltb (c .room) room))

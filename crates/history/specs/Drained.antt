@@ -6,7 +6,7 @@ use mathlib.Core.List.{List, [], _∷_, _++_}
 use Prim.Native.Nat.{ℕ, zero, suc}
 use Rattle.history.specs.Calls.{Input, fed, silent, Call, Answer, Step, run}
 
--- For each port: was a silence accepted, and none drained to answer 1 since?
+-- For each port: was a silence accepted that is not drained to answer 1 yet?
 pub record Undrained : Type 0 where
   pub port0 : Bool
   pub port1 : Bool
