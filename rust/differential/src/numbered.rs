@@ -258,7 +258,7 @@ pub fn growing(calls: &impl Calls, page: &[u8], list: &[Step], ran: &mut Ran) ->
         let fed = given.answer(calls, alone.board, &mut room, &mut alone.page);
         ran.count(fed.number);
         alone.board = fed.board;
-        if fed.number == 0 && room[2] == 0x7C && room[7] != 5 {
+        if fed.number == 0 && room.get(2) == Some(&0x7C) && room.get(7).is_some_and(|error| *error != 5) {
             if let Some(number) = number_in(&unread, given) {
                 same("the number accepted is larger than the last", &last.is_none_or(|last| number > last), &true)
                     .map_err(|text| format!("{text}\n  {last:08X?}, then {number:08X}, in {}", hex(&unread)))?;
