@@ -5,7 +5,7 @@ use Prim.Native.Nat.{ℕ}
 use Rattle.stream.specs.declared.Verdict.{Verdict}
 use Rattle.stream.specs.Scan.{Event, eventsPast, events}
 use Rattle.stream.specs.Silence.{End, running, ended, upTo, Stream, extend, mark, joined, bytesIn, segmentEvents, scan, filled, withBytes}
-use Rattle.stream.specs.Marks.{StartsAnew, MarkTwice, MarksBehindBytes}
+use Rattle.stream.specs.Marks.{StartsAnew, StartsAnewEnded, MarkTwice, MarksBehindBytes}
 
 -- ---- Its bytes.
 
@@ -81,6 +81,9 @@ joined-filled (u ∷ us) = filled-joined u (withBytes us) ∙ ap (λ (bs : List 
 
 pub starts-anew : StartsAnew
 starts-anew front s v = scan-past-mark front running s v
+
+pub starts-anew-ended : StartsAnewEnded
+starts-anew-ended front s v = scan-past-mark front ended s v
 
 pub mark-twice : MarkTwice
 mark-twice = scan-mark-twice

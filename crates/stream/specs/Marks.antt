@@ -6,7 +6,7 @@ use Prim.Native.Nat.{ℕ}
 use Rattle.stream.specs.declared.Verdict.{Verdict}
 use Rattle.stream.specs.declared.Verdict.the-variants.{Whole}
 use Rattle.stream.specs.Scan.{events}
-use Rattle.stream.specs.Silence.{End, upTo, Stream, extend, mark, segmentEvents, scan, withBytes}
+use Rattle.stream.specs.Silence.{End, ended, upTo, Stream, extend, mark, segmentEvents, scan, withBytes}
 
 -- What is told as a message before a mark is that message without the mark too: a mark makes none. Proof: Ends `whole-unmarked`.
 abbrev pub MarkMakesNone : Type 0
@@ -15,6 +15,11 @@ MarkMakesNone = (front : List ℕ → Verdict) (e : End) (u : List ℕ) (n : ℕ
 -- "No message crossing a mark": after a mark the scan starts anew, whatever stood before it. Proof: Streams `starts-anew`.
 abbrev pub StartsAnew : Type 0
 StartsAnew = (front : List ℕ → Verdict) (s : Stream) (v : List ℕ) → scan front (extend (mark s) v) ≡ scan front (mark s) ++ events front v
+
+-- So it does before a further mark: between two marks the scan is that of the bytes between them, up to the second. Proof: Streams
+-- `starts-anew-ended`.
+abbrev pub StartsAnewEnded : Type 0
+StartsAnewEnded = (front : List ℕ → Verdict) (s : Stream) (v : List ℕ) → scan front (mark (extend (mark s) v)) ≡ scan front (mark s) ++ events (upTo ended front) v
 
 -- A second mark at one place is none. Proof: Streams `mark-twice`.
 abbrev pub MarkTwice : Type 0
