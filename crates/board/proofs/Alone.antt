@@ -14,9 +14,11 @@ use Rattle.message.specs.Front.{front}
 use Rattle.message.specs.Message.{messageOf}
 use Rattle.message.specs.Theorems.{RoundTrip}
 use Rattle.message.proofs.RoundTrips.{written-is-read}
+use Rattle.command.specs.declared.rights.Rights.{Rights}
 use Rattle.command.specs.declared.settings.Settings.{Settings}
 use Rattle.command.specs.Outcome.{receivedOf}
 use Rattle.command.specs.Answer.{replyRoom, answering}
+use Rattle.board.specs.Profile.{rightsOf}
 use Rattle.board.specs.declared.board.Board.{Board}
 use Rattle.board.specs.Feed.{PortStep, unsound, feedNumber, stepOn, stepBy, feedOn, callOf}
 use Rattle.board.specs.Alone.{Ready, answeredStep, FedAlone}
@@ -35,8 +37,8 @@ unfolding seek
 found-front [] n e h = absurd (omega arith)
 found-front (x ∷ xs) n e h = rw e
 
-alone : (port : ℕ) (m : List ℕ) (n : ℕ) → length m ≡ n → (w : Settings) (room page : List ℕ) → stepOn port (Found 0 n true) [] w m room page ≡ answeredStep m (answering port (receivedOf true m) w room page)
-alone port m n ns w room page =
+alone : (rights : Rights) (m : List ℕ) (n : ℕ) → length m ≡ n → (w : Settings) (room page : List ℕ) → stepOn rights (Found 0 n true) [] w m room page ≡ answeredStep m (answering rights (receivedOf true m) w room page)
+alone rights m n ns w room page =
     let taken : 0 + n - 0 ≡ length m = omega arith in
     let past : 0 + n ≡ length m = omega arith in
     rw (taken, past, take-all (length m) m (omega arith), drop-of-length-le m {i = length m} (omega arith))
@@ -48,4 +50,4 @@ fed-alone port b room page kind payload r o l =
     let t : RoundTrip kind payload = written-is-read kind payload l in
     let f : seek front m ≡ Found 0 (length payload + 6) true =
     found-front m (length payload + 6) (ap front (sym (append-nil m)) ∙ t .good o []) (rw (t .size) (omega arith)) in
-    rw (accepted port b room page r, r .nothing-held, f) (ap (λ (s : PortStep). feedOn s port b) (alone port m (length payload + 6) (t .size) (b .settings) room page))
+    rw (accepted port b room page r, r .nothing-held, f) (ap (λ (s : PortStep). feedOn s port b) (alone (rightsOf (b .readonly) port) m (length payload + 6) (t .size) (b .settings) room page))

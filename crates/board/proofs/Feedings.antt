@@ -27,6 +27,7 @@ use Rattle.page.specs.Page.{pageSize}
 use Rattle.page.specs.Sound.{sound, pageNumber}
 use Rattle.page.proofs.Pages.{factory-usable, sound-passes}
 use Rattle.page.proofs.Settings.{five-ranges}
+use Rattle.command.specs.declared.rights.Rights.{Rights}
 use Rattle.command.specs.declared.settings.Settings.{Settings}
 use Rattle.command.specs.Outcome.{Received, receivedOf}
 use Rattle.command.specs.Handle.{messageOutcome}
@@ -38,6 +39,7 @@ use Rattle.command.proofs.Keeps.{starts-usable}
 use Rattle.command.proofs.Pages.{loads-usable, reply-whole, answer-keeps}
 use Rattle.command.proofs.Separate.{longest-reply}
 use Rattle.message.proofs.Writes.{message-length}
+use Rattle.board.specs.Profile.{Profile, rightsOf}
 use Rattle.board.specs.Handling.{Kept}
 use Rattle.page.specs.declared.setting.Setting.the-variants.{Baud, Accelerometer, Gyroscope}
 use Rattle.board.specs.declared.board.Board.{Board}
@@ -49,7 +51,7 @@ use Rattle.board.specs.Feed.{Feeding, PortStep, unsound, feedNumber, ref
 use Rattle.board.specs.Runs.{callsFrom}
 use Rattle.board.specs.Older.{RangeSound}
 use Rattle.board.specs.AnyBoard.{isSound, otherPort, goodLength, FirstNumber, FirstNumbers, CallsKeep, StartsKeep, RunsStaySound}
-use Rattle.board.proofs.Follows.{holding}
+use Rattle.board.proofs.Follows.{holding, call-profile, start-profile}
 use Rattle.board.proofs.Reckons.{page-sound}
 use Rattle.board.proofs.Places.{passes, resume-past}
 
@@ -81,16 +83,16 @@ joined first second w p = rw (le-ltb portRoom first (p .first-few), le-ltb portR
 
 -- ---- a step
 
-module _ (port : ℕ) (held : List ℕ) (w : Settings) (i : Input) (room page : List ℕ) where
+module _ (rights : Rights) (held : List ℕ) (w : Settings) (i : Input) (room page : List ℕ) where
   abbrev chunk : List ℕ
   chunk = chunkOf i
 
   -- What stays held fits the port.
-  step-few : length held ≤ portRoom → length (stepBy port held w i room page .held) ≤ portRoom
+  step-few : length held ≤ portRoom → length (stepBy rights held w i room page .held) ≤ portRoom
   unfolding stepBy
   step-few few = go (soughtBy front i held) refl
     where
-      go : (q : Sought) → soughtBy front i held ≡ q → length (stepOn port q held w chunk room page .held) ≤ portRoom
+      go : (q : Sought) → soughtBy front i held ≡ q → length (stepOn rights q held w chunk room page .held) ≤ portRoom
       go (Starved k) e =
           let s : Starving cutting-harmless held i k = call-starved cutting-harmless held i k few e in
           s .few
@@ -101,17 +103,17 @@ module _ (port : ℕ) (held : List ℕ) (w : Settings) (i : Input) (room page : 
           omega (arith, few, r, s .most, s .inside, length-drop (resume k n good) visible, length-append held (take (k + n - length held) chunk), length-take (k + n - length held) chunk)
 
   -- An accepted step answers 0 or 1.
-  step-number : stepBy port held w i room page .number ≤ 1
+  step-number : stepBy rights held w i room page .number ≤ 1
   unfolding stepBy
   step-number = go (soughtBy front i held)
     where
-      go : (q : Sought) → stepOn port q held w chunk room page .number ≤ 1
+      go : (q : Sought) → stepOn rights q held w chunk room page .number ≤ 1
       go (Starved k) = omega arith
       go (Found k n good) = omega arith
 
   -- What it does to the settings and the page.
   abbrev puts : ℕ → Bool → List Put
-  puts k good = messagePuts port (record { settings = w; page = page }) (receivedOf good (drop k (held ++ chunk)))
+  puts k good = messagePuts rights (record { settings = w; page = page }) (receivedOf good (drop k (held ++ chunk)))
 
   record StepSaved (after : List ℕ) : Type 0 where
     before : ℕ
@@ -136,16 +138,16 @@ module _ (port : ℕ) (held : List ℕ) (w : Settings) (i : Input) (room page : 
   marked-some [] saved m e = differ (sym e ∙ m)
   marked-some (p ∷ ps) saved m e = omega arith
 
-  step-keeps : sound page ≡ true → settingsUsable w ≡ true → replyRoom ≤ length room → StepKeeps (stepBy port held w i room page)
+  step-keeps : sound page ≡ true → settingsUsable w ≡ true → replyRoom ≤ length room → StepKeeps (stepBy rights held w i room page)
   unfolding stepBy
   step-keeps h a large = go (soughtBy front i held) refl
     where
-      go : (q : Sought) → soughtBy front i held ≡ q → StepKeeps (stepOn port q held w chunk room page)
+      go : (q : Sought) → soughtBy front i held ≡ q → StepKeeps (stepOn rights q held w chunk room page)
       go (Starved k) f = record { settings-usable = a; page-kept-sound = h; unsaved = λ e. refl; saved = λ e. differ (sym e) }
       go (Found k n good) f =
           let m : Received = receivedOf good (drop k (held ++ chunk)) in
-          let t = answer-keeps port m w room page h a in
-          let saved : Bool = answering port m w room page .answer .saved in
+          let t = answer-keeps rights m w room page h a in
+          let saved : Bool = answering rights m w room page .answer .saved in
           record {
             settings-usable = t .settings-usable;
             page-kept-sound = t .page-sound;
@@ -176,17 +178,17 @@ module _ (port : ℕ) (held : List ℕ) (w : Settings) (i : Input) (room page : 
   zero-not-one : {A : Type 0} → _≡_ {A = ℕ} 0 1 → A
   zero-not-one e = let no : ⊥ = omega (arith, e) in absurd no
 
-  answer-reply : (m : Received) → replyRoom ≤ length room → StepReply (answering port m w room page .room)
+  answer-reply : (m : Received) → replyRoom ≤ length room → StepReply (answering rights m w room page .room)
   answer-reply m large =
       let x : Kept = record { settings = w; page = page } in
-      let rows : List ℕ = messageOutcome pageAccess port x m .rows in
-      let most = longest-reply .most (List ℕ) pageAccess port x m in
+      let rows : List ℕ = messageOutcome pageAccess rights x m .rows in
+      let most = longest-reply .most (List ℕ) pageAccess rights x m in
       let few : length rows ≤ 255 = omega (arith, most, message-length (m .kind) rows) in
       record {
-        reply = replyTo port m w page;
+        reply = replyTo rights m w page;
         whole = written-is-read (m .kind) rows few .whole;
         fits = most;
-        room-after = reply-whole port m w room page large;
+        room-after = reply-whole rights m w room page large;
       }
 
   found-sum : (k n : ℕ) (good : Bool) → 1 ≤ n → k + n ≤ length held + length chunk
@@ -202,11 +204,11 @@ module _ (port : ℕ) (held : List ℕ) (w : Settings) (i : Input) (room page : 
       go true e = omega (arith, s, e)
       go false e = omega (arith, s, e)
 
-  step-tells : length held ≤ portRoom → replyRoom ≤ length room → StepTells (soughtBy front i held) (stepBy port held w i room page)
+  step-tells : length held ≤ portRoom → replyRoom ≤ length room → StepTells (soughtBy front i held) (stepBy rights held w i room page)
   unfolding stepBy
   step-tells few large = go (soughtBy front i held) refl
     where
-      go : (q : Sought) → soughtBy front i held ≡ q → StepTells q (stepOn port q held w chunk room page)
+      go : (q : Sought) → soughtBy front i held ≡ q → StepTells q (stepOn rights q held w chunk room page)
       go (Starved k) e =
           let s : Starving cutting-harmless held i k = call-starved cutting-harmless held i k few e in
           record {
@@ -290,11 +292,11 @@ module _ (port : ℕ) (b : Board) (i : Input) (room page : List ℕ) where
     refused : 1 < f .answer .number → f ≡ refusedFeeding (f .answer .number) b room page
     fed-port : f .answer .number ≤ 1 → portOf port (f .answer .board) ≡ portHolding (heldBytes (portOf port (f .answer .board)))
     other-port : f .answer .number ≤ 1 → portOf (otherPort port) (f .answer .board) ≡ portOf (otherPort port) b
-    saved : f .answer .saved ≡ true → StepSaved port (heldBytes (portOf port b)) (b .settings) i room page (f .page)
+    saved : f .answer .saved ≡ true → StepSaved (rightsOf (b .readonly) port) (heldBytes (portOf port b)) (b .settings) i room page (f .page)
     unsaved : f .answer .saved ≡ false → f .page ≡ page
     board-sound : isSound b ≡ true → isSound (f .answer .board) ≡ true
     page-stays : pageNumber page ≡ 0 → pageNumber (f .page) ≡ 0
-    reported : f .answer .number ≡ 0 → StepReply port (heldBytes (portOf port b)) (b .settings) i room page (f .room)
+    reported : f .answer .number ≡ 0 → StepReply (rightsOf (b .readonly) port) (heldBytes (portOf port b)) (b .settings) i room page (f .room)
     all-taken : f .answer .number ≡ 1 → f .answer .taken ≡ length (chunkOf i)
     no-save : f .answer .number ≡ 1 → f .answer .saved ≡ false
     room-same : f .answer .number ≡ 1 → f .room ≡ room
@@ -323,16 +325,16 @@ module _ (port : ℕ) (b : Board) (i : Input) (room page : List ℕ) where
       }
 
   abbrev this : PortStep
-  this = stepBy port (heldBytes (portOf port b)) (b .settings) i room page
+  this = stepBy (rightsOf (b .readonly) port) (heldBytes (portOf port b)) (b .settings) i room page
 
   accepted-keeps : Passed port b room page → KeptBy (feedOn this port b)
   accepted-keeps p =
       let s = parts (b .first .held) (b .second .held) (b .settings) (p .sound-board) in
       let h : sound page ≡ true = page-sound page (p .passing-page) in
-      let k = step-keeps port (heldBytes (portOf port b)) (b .settings) i room page h (s .usable-settings) (p .large-room) in
-      let t = step-tells port (heldBytes (portOf port b)) (b .settings) i room page (port-few port b s) (p .large-room) in
-      let few = step-few port (heldBytes (portOf port b)) (b .settings) i room page (port-few port b s) in
-      let n = step-number port (heldBytes (portOf port b)) (b .settings) i room page in
+      let k = step-keeps (rightsOf (b .readonly) port) (heldBytes (portOf port b)) (b .settings) i room page h (s .usable-settings) (p .large-room) in
+      let t = step-tells (rightsOf (b .readonly) port) (heldBytes (portOf port b)) (b .settings) i room page (port-few port b s) (p .large-room) in
+      let few = step-few (rightsOf (b .readonly) port) (heldBytes (portOf port b)) (b .settings) i room page (port-few port b s) in
+      let n = step-number (rightsOf (b .readonly) port) (heldBytes (portOf port b)) (b .settings) i room page in
       record {
         refused = λ l. (let no : ⊥ = omega (arith, n, l) in absurd no);
         fed-port = λ l. with-fed port b (this .held) (this .settings);
@@ -380,6 +382,7 @@ calls-keep port b i room page =
     let k = kept-by port b i room page in
     record {
       refused = k .refused;
+      profile = call-profile port b i room page;
       ports = λ l. record { fed-port = k .fed-port l; other-port = k .other-port l };
       reported = λ e. (let r = k .reported e in record { reply = r .reply; whole = r .whole; fits = r .fits; room-after = r .room-after });
       used-up = λ e. record { all-taken = k .all-taken e; no-save = k .no-save e; room-same = k .room-same e; page-same = k .page-same e; settings-same = k .settings-same e };
@@ -437,7 +440,7 @@ module _ (port : ℕ) (b : Board) (i : Input) (room page : List ℕ) where
 
   accepted-number : feedNumber port (b .first .held) (b .second .held) (b .settings) room page ≡ 0 → callOf port b i room page .answer .number ≤ 1
   unfolding callOf
-  accepted-number e = rw e (step-number port (heldBytes (portOf port b)) (b .settings) i room page)
+  accepted-number e = rw e (step-number (rightsOf (b .readonly) port) (heldBytes (portOf port b)) (b .settings) i room page)
 
   pub first-number : FirstNumber port b i room page
   first-number =
@@ -461,34 +464,35 @@ factory-sound = rw (factory-usable Baud, factory-usable Accelerometer, factory-u
 
 pub range-sound : RangeSound
 unfolding unsound settingsUsable usable
-range-sound range = twice (someOf (eqb range) gyroscopeRanges) ∙ sym (five-ranges range (leb 1 range && leb range 5) refl)
+range-sound profile range = twice (someOf (eqb range) gyroscopeRanges) ∙ sym (five-ranges range (leb 1 range && leb range 5) refl)
   where
     twice : (b : Bool) → not (not b) ≡ b
     twice true = refl
     twice false = refl
 
-fresh-sound : (w : Settings) → settingsUsable w ≡ true → isSound (freshBoard w) ≡ true
-fresh-sound w a = joined 0 0 w (record { first-few = omega arith; second-few = omega arith; usable-settings = a })
+fresh-sound : (profile : Profile) (w : Settings) → settingsUsable w ≡ true → isSound (freshBoard profile w) ≡ true
+fresh-sound profile w a = joined 0 0 w (record { first-few = omega arith; second-few = omega arith; usable-settings = a })
 
-start-with : (page : List ℕ) (n : ℕ) → pageNumber page ≡ n → startOf page ≡ startOn n page
+start-with : (profile : Profile) (page : List ℕ) (n : ℕ) → pageNumber page ≡ n → startOf profile page ≡ startOn n profile page
 unfolding startOf
-start-with page n e = rw e
+start-with profile page n e = rw e
 
-started-sound : (page : List ℕ) → isSound (startOf page .board) ≡ true
+started-sound : (profile : Profile) (page : List ℕ) → isSound (startOf profile page .board) ≡ true
 unfolding startOf
-started-sound page = go (pageNumber page) refl
+started-sound profile page = go (pageNumber page) refl
   where
-    go : (n : ℕ) → pageNumber page ≡ n → isSound (startOn n page .board) ≡ true
-    go zero e = fresh-sound (settingsFrom page) (starts-usable (loadedFrom page) (loads-usable page))
-    go (suc n) e = fresh-sound factorySettings factory-sound
+    go : (n : ℕ) → pageNumber page ≡ n → isSound (startOn n profile page .board) ≡ true
+    go zero e = fresh-sound profile (settingsFrom page) (starts-usable (loadedFrom page) (loads-usable page))
+    go (suc n) e = fresh-sound profile factorySettings factory-sound
 
 pub starts-keep : StartsKeep
-starts-keep page =
+starts-keep profile page =
     record {
-      wrong-length = λ h. start-with page 19 (page-19 page h);
-      unsound-page = λ l s. start-with page 20 (page-20 page l s);
-      started = λ l s. ap (λ (r : Started). r .number) (start-with page 0 (page-0 page l s));
-      board-sound = started-sound page;
+      wrong-length = λ h. start-with profile page 19 (page-19 page h);
+      unsound-page = λ l s. start-with profile page 20 (page-20 page l s);
+      started = λ l s. ap (λ (r : Started). r .number) (start-with profile page 0 (page-0 page l s));
+      board-sound = started-sound profile page;
+      profile-kept = start-profile profile page;
     }
 
 -- ---- lists of calls

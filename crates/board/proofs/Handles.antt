@@ -1,5 +1,5 @@
 -- Handling on the reckoning's values and on the board's settings and page go together.
-use mathlib.Core.Bool.{Bool, true}
+use mathlib.Core.Bool.{true}
 use mathlib.Core.List.{List}
 use mathlib.Core.Option.{Option, none, some}
 use mathlib.Core.Path.{_≡_, refl, sym, ap, _∙_, fun-ext}
@@ -18,10 +18,11 @@ use Rattle.page.specs.Page.{storedIn, withValue, withKey, allStorable, writing,
 use Rattle.page.specs.Sound.{sound, putPage}
 use Rattle.page.specs.Loading.{loadedValue}
 use Rattle.page.proofs.Pages.{writing-size, read-back, writing-sound, usable-storable, put-storable}
+use Rattle.command.specs.declared.rights.Rights.{Rights}
 use Rattle.command.specs.declared.settings.Settings.{Settings}
 use Rattle.command.specs.declared.command.Command.{Command}
 use Rattle.command.specs.Effects.{workingValue, Effect, effectOf, settingsUsable}
-use Rattle.command.specs.Outcome.{receivedOf, pageAfter, needsNumber, fieldOutcome}
+use Rattle.command.specs.Outcome.{receivedOf, pageAfter, denialOf, fieldOutcome}
 use Rattle.command.specs.Handle.{spent}
 use Rattle.command.specs.Answer.{loadedFrom, putOn, savedOn, numberOn, pageAccess}
 use Rattle.command.specs.Several.{Alike, KeepAlike}
@@ -29,6 +30,7 @@ use Rattle.command.proofs.Separate.{messages-alike}
 use Rattle.message.specs.Message.{messageOf}
 use Rattle.command.proofs.Keeps.{value-usable, keeps-usable}
 use Rattle.command.proofs.Pages.{loads-usable, loads-stored, page-changes}
+use Rattle.board.specs.Profile.{Profile, rightsOf}
 use Rattle.board.specs.Handling.{handleOn, Reckoned, Kept, loadedOf, valuesAccess, reckonMessage, handleMessage, keptTests, StoredAs}
 
 -- What is loaded from the writing of values is what those values give.
@@ -72,22 +74,25 @@ passes-tests x y r =
 number-same : (v : Values) → allStorable v ≡ true → numberOn (writing v) ≡ v .number
 number-same v a = ap (λ (u : Values). u .number) (read-back v a)
 
+denial-same : (rights : Rights) (v : Values) → allStorable v ≡ true → denialOf pageAccess rights (writing v) ≡ denialOf valuesAccess rights v
+denial-same rights v a = rw (number-same v a)
+
 -- Both sides of a field.
-both-handled : (guarded : Bool) (w : Settings) (v : Values) (c : Command) → settingsUsable w ≡ true → allStorable v ≡ true
-    → Alike StoredAs (fieldOutcome valuesAccess guarded (record { settings = w; page = v }) c) (fieldOutcome pageAccess guarded (record { settings = w; page = writing v }) c)
+both-handled : (rights : Rights) (w : Settings) (v : Values) (c : Command) → settingsUsable w ≡ true → allStorable v ≡ true
+    → Alike StoredAs (fieldOutcome valuesAccess rights (record { settings = w; page = v }) c) (fieldOutcome pageAccess rights (record { settings = w; page = writing v }) c)
 unfolding fieldOutcome effectOf
-both-handled guarded w v c a b =
+both-handled rights w v c a b =
     let l : loadedFrom (writing v) ≡ loadedOf v = sym (loaded-same v b) in
-    let e : Effect = effectOf (needsNumber valuesAccess guarded v) (loadedOf v) w c in
+    let e : Effect = effectOf (denialOf valuesAccess rights v) (loadedOf v) w c in
     let k = after-same (e .saves) w v b a in
-    rw (l, number-same v b)
+    rw (l, denial-same rights v b)
     (record {
       rows = refl;
       saved = refl;
       next = record {
         settings = refl;
         page = k .0;
-        settings-usable = keeps-usable (needsNumber valuesAccess guarded v) (loadedOf v) w c (loaded-usable v b) a;
+        settings-usable = keeps-usable (denialOf valuesAccess rights v) (loadedOf v) w c (loaded-usable v b) a;
         values-storable = k .1;
       };
     })
@@ -101,13 +106,13 @@ stored-is x y r =
 keep-alike : KeepAlike valuesAccess pageAccess StoredAs
 keep-alike =
     record {
-      fields = λ guarded x y c r. field guarded x y c r;
+      fields = λ rights x y c r. field rights x y c r;
       numbers = λ x y r. sym (ap numberOn (r .page) ∙ number-same (x .page) (r .values-storable));
       puts = λ n x y h r. put n x y h r;
     }
   where
-    field : (guarded : Bool) (x : Reckoned) (y : Kept) (c : Command) → StoredAs x y → Alike StoredAs (fieldOutcome valuesAccess guarded x c) (fieldOutcome pageAccess guarded y c)
-    field guarded x y c r = rw (stored-is x y r) (both-handled guarded (x .settings) (x .page) c (r .settings-usable) (r .values-storable))
+    field : (rights : Rights) (x : Reckoned) (y : Kept) (c : Command) → StoredAs x y → Alike StoredAs (fieldOutcome valuesAccess rights x c) (fieldOutcome pageAccess rights y c)
+    field rights x y c r = rw (stored-is x y r) (both-handled rights (x .settings) (x .page) c (r .settings-usable) (r .values-storable))
 
     put : (n : ℕ) (x : Reckoned) (y : Kept) → n < 4294967296 → StoredAs x y → StoredAs (spent valuesAccess x n) (spent pageAccess y n)
     put n x y h r =
@@ -120,12 +125,12 @@ keep-alike =
         }
 
 -- And so both sides of a message.
-pub handles : Handles StoredAs reckonMessage keptTests handleMessage
+pub handles : (profile : Profile) → Handles StoredAs (reckonMessage profile) keptTests (handleMessage profile)
 unfolding handleOn
-handles =
+handles profile =
     record {
       passes = passes-tests;
       handled = λ port x y m r.
-          (let a = messages-alike Values (List ℕ) valuesAccess pageAccess StoredAs keep-alike port x y (receivedOf (m .good) (m .bytes)) r in
+          (let a = messages-alike Values (List ℕ) valuesAccess pageAccess StoredAs keep-alike (rightsOf profile port) x y (receivedOf (m .good) (m .bytes)) r in
           record { reply = ap (messageOf (receivedOf (m .good) (m .bytes) .kind)) (a .rows); saved = a .saved; next = a .next });
     }

@@ -1,5 +1,5 @@
 -- Histories of calls and restarts: no number is accepted twice, and what is sent again on port 0 changes nothing.
-use mathlib.Core.Bool.{Bool, true, false, cond}
+use mathlib.Core.Bool.{Bool, true, false, _&&_, not, cond}
 use mathlib.Core.List.{List, [], _∷_, _++_}
 use mathlib.Core.Option.{Option, none, some}
 use mathlib.Core.Path.{_≡_, refl, sym, ap, subst, _∙_}
@@ -19,18 +19,21 @@ use Rattle.history.proofs.Numbers.{growing-none-twice}
 use Rattle.message.specs.Front.{front}
 use Rattle.page.specs.declared.setting.Stored.{Stored}
 use Rattle.page.specs.declared.setting.Stored.the-variants.{Value}
-use Rattle.page.specs.Sound.{sound}
+use Rattle.page.specs.Sound.{sound, pageNumber}
+use Rattle.command.specs.declared.rights.Rights.{Rights}
 use Rattle.command.specs.declared.settings.Settings.{Settings}
+use Rattle.command.specs.Rights.{guardedRights}
 use Rattle.command.specs.Numbers.{isFresh}
-use Rattle.command.specs.Numbered.{carried, keptOn, carriesFresh}
+use Rattle.command.specs.Numbered.{carried, keptOn, HandlesNumber, carriesFresh}
 use Rattle.command.specs.Outcome.{Outcome, Received, receivedOf}
 use Rattle.command.specs.Handle.{messageOutcome}
 use Rattle.command.specs.Answer.{numberOn, pageAccess, Answering, answerWith, answering}
-use Rattle.command.proofs.Numbers.{number-handles, number-kept, port-zero-guarded}
+use Rattle.command.proofs.Numbers.{number-handles, number-kept, number-guards}
 use Rattle.command.proofs.Pages.{answer-large}
 use Rattle.board.specs.declared.board.Board.{Board}
 use Rattle.board.specs.Port.{heldBytes, portHolding, portOf}
-use Rattle.board.specs.Start.{startOf}
+use Rattle.board.specs.Profile.{Profile, rightsOf}
+use Rattle.board.specs.Start.{startOn, startOf}
 use Rattle.board.specs.Feed.{Feeding, PortStep, feedNumber, stepOn, stepBy, acceptOn, callOf}
 use Rattle.board.specs.Handling.{Kept}
 use Rattle.board.specs.Runs.{Call, Calls, callsFrom}
@@ -50,18 +53,18 @@ no-restart b page (c ∷ cs) =
 pub one-act-more : OneActMore
 unfolding actsFrom
 one-act-more b page [] (call c) = refl
-one-act-more b page [] restart = refl
-one-act-more b page (restart ∷ acts) a = one-act-more (startOf page .board) page acts a
+one-act-more b page [] (restart profile) = refl
+one-act-more b page (restart profile ∷ acts) a = one-act-more (startOf profile page .board) page acts a
 one-act-more b page (call d ∷ acts) a =
     let f : Feeding = callOf (d .port) b (d .input) (d .room) page in
     let more : Calls → Calls = λ r. record { feedings = f ∷ r .feedings; board = r .board; page = r .page } in
     ap more (one-act-more (f .answer .board) (f .page) acts a) ∙ go a (actsFrom (f .answer .board) (f .page) acts)
   where
-    go : (a : Act Call) (r : Calls)
+    go : (a : Act Profile Call) (r : Calls)
         → record { feedings = callOf (d .port) b (d .input) (d .room) page ∷ actThen r a .feedings; board = actThen r a .board; page = actThen r a .page }
         ≡ actThen (record { feedings = callOf (d .port) b (d .input) (d .room) page ∷ r .feedings; board = r .board; page = r .page }) a
     go (call c) r = refl
-    go restart r = refl
+    go (restart profile) r = refl
 
 -- ---- numbers that lead from the one kept before to the one kept after: each is fresh, and is then the kept one
 
@@ -100,22 +103,27 @@ one-leads : (fresh : Bool) (kept after : Stored) (n : ℕ) → isFresh kept n �
 one-leads true kept after n f e = (f, e)
 one-leads false kept after n f e = e
 
-module _ (port : ℕ) (x : Kept) (m : Received) where
+module _ (rights : Rights) (x : Kept) (m : Received) where
   abbrev outcome : Outcome (List ℕ)
-  outcome = messageOutcome pageAccess port x m
+  outcome = messageOutcome pageAccess rights x m
 
   message-leads : sound (x .page) ≡ true
       → Leads (numberOn (x .page)) (acceptedWith (outcome .saved) (carried m)) (numberOn (outcome .next .page))
-  message-leads h = go (carried m) refl
+  message-leads h = go (rights .readonly) refl (carried m) refl
     where
-      kept : (c : Option ℕ) → carried m ≡ c → numberOn (outcome .next .page) ≡ keptOn c (numberOn (x .page))
-      kept c e = number-kept port x m h .kept ∙ ap (λ (c : Option ℕ). keptOn c (numberOn (x .page))) e
+      kept : (r : Bool) → rights .readonly ≡ r → (c : Option ℕ) → carried m ≡ c → numberOn (outcome .next .page) ≡ keptOn (cond r none c) (numberOn (x .page))
+      kept r rs c e = number-kept rights x m h .kept ∙ rw (rs, e)
 
-      go : (c : Option ℕ) → carried m ≡ c → Leads (numberOn (x .page)) (acceptedWith (outcome .saved) c) (numberOn (outcome .next .page))
-      go none e = none-leads (outcome .saved) (numberOn (x .page)) (numberOn (outcome .next .page)) (kept none e)
-      go (some n) e =
-          let mark : outcome .saved ≡ isFresh (numberOn (x .page)) n = number-handles (List ℕ) pageAccess port x m n e .mark in
-          rw mark (one-leads (isFresh (numberOn (x .page)) n) (numberOn (x .page)) (numberOn (outcome .next .page)) n refl (kept (some n) e))
+      go : (r : Bool) → rights .readonly ≡ r → (c : Option ℕ) → carried m ≡ c
+          → Leads (numberOn (x .page)) (acceptedWith (outcome .saved) c) (numberOn (outcome .next .page))
+      go true rs none e = none-leads (outcome .saved) (numberOn (x .page)) (numberOn (outcome .next .page)) (kept true rs none e)
+      go false rs none e = none-leads (outcome .saved) (numberOn (x .page)) (numberOn (outcome .next .page)) (kept false rs none e)
+      go true rs (some n) e =
+          let mark : outcome .saved ≡ false = number-handles (List ℕ) pageAccess rights x m n e .mark ∙ rw rs in
+          rw mark (kept true rs (some n) e)
+      go false rs (some n) e =
+          let mark : outcome .saved ≡ isFresh (numberOn (x .page)) n = number-handles (List ℕ) pageAccess rights x m n e .mark ∙ rw rs in
+          rw mark (one-leads (isFresh (numberOn (x .page)) n) (numberOn (x .page)) (numberOn (outcome .next .page)) n refl (kept false rs (some n) e))
 
 -- ---- one call, of any board
 
@@ -126,8 +134,11 @@ module _ (b : Board) (page : List ℕ) (c : Call) where
   abbrev number : ℕ
   number = feedNumber (c .port) (b .first .held) (b .second .held) (b .settings) (c .room) page
 
+  abbrev rights : Rights
+  rights = rightsOf (b .readonly) (c .port)
+
   abbrev stepFor : Sought → PortStep
-  stepFor q = stepOn (c .port) q held (b .settings) (chunkOf (c .input)) (c .room) page
+  stepFor q = stepOn rights q held (b .settings) (chunkOf (c .input)) (c .room) page
 
   abbrev stored : Kept
   stored = record { settings = b .settings; page = page }
@@ -137,16 +148,16 @@ module _ (b : Board) (page : List ℕ) (c : Call) where
 
   -- A message that is found is handled.
   answered : Passed (c .port) b (c .room) page → (k : ℕ) (good : Bool)
-      → answering (c .port) (received k good) (b .settings) (c .room) page
-      ≡ answerWith (received k good .kind) (messageOutcome pageAccess (c .port) stored (received k good)) (c .room)
-  answered p k good = answer-large (c .port) (received k good) (b .settings) (c .room) page (p .large-room)
+      → answering rights (received k good) (b .settings) (c .room) page
+      ≡ answerWith (received k good .kind) (messageOutcome pageAccess rights stored (received k good)) (c .room)
+  answered p k good = answer-large rights (received k good) (b .settings) (c .room) page (p .large-room)
 
   step-leads : Passed (c .port) b (c .room) page → (q : Sought)
       → Leads (numberOn page) (acceptedWith (stepFor q .saved) (carriedAt q (held ++ chunkOf (c .input)))) (numberOn (stepFor q .page))
   step-leads p (Starved k) = refl
   step-leads p (Found k n good) =
       subst (λ (a : Answering). Leads (numberOn page) (acceptedWith (a .answer .saved) (carried (received k good))) (numberOn (a .page))) (sym (answered p k good))
-      (message-leads (c .port) stored (received k good) (page-sound page (p .passing-page)))
+      (message-leads rights stored (received k good) (page-sound page (p .passing-page)))
 
   abbrev feeding : Feeding
   feeding = callOf (c .port) b (c .input) (c .room) page
@@ -166,21 +177,27 @@ module _ (b : Board) (page : List ℕ) (c : Call) where
   -- ---- the mark
 
   record Marks (n : ℕ) (answers : ℕ) (saved : Bool) (settings : Settings) (after : List ℕ) : Type 0 where
-    answered-so : answers ≡ 0 → saved ≡ isFresh (numberOn page) n
+    answered-so : answers ≡ 0 → saved ≡ not (rights .readonly) && isFresh (numberOn page) n
     unmarked : saved ≡ false → (settings ≡ b .settings) × (after ≡ page)
 
   step-marks : Passed (c .port) b (c .room) page → (q : Sought) (n : ℕ) → carriedAt q (held ++ chunkOf (c .input)) ≡ some n
       → Marks n (stepFor q .number) (stepFor q .saved) (stepFor q .settings) (stepFor q .page)
   step-marks p (Starved k) n e = let z : _≡_ {A = ℕ} 0 1 = cc in absurd (omega arith)
   step-marks p (Found k l good) n e =
-      let t = number-handles (List ℕ) pageAccess (c .port) stored (received k good) n e in
+      let t = number-handles (List ℕ) pageAccess rights stored (received k good) n e in
       subst (λ (a : Answering). Marks n 0 (a .answer .saved) (a .answer .settings) (a .page)) (sym (answered p k good))
       (record {
         answered-so = λ z. t .mark;
         unmarked = λ z.
-            (let same : messageOutcome pageAccess (c .port) stored (received k good) .next ≡ stored = ap (λ (o : Outcome (List ℕ)). o .next) (t .stale (sym (t .mark) ∙ z)) in
+            (let same : messageOutcome pageAccess rights stored (received k good) .next ≡ stored = left t (rights .readonly) refl (sym (t .mark) ∙ z) in
             (ap (λ (x : Kept). x .settings) same, ap (λ (x : Kept). x .page) same));
       })
+    where
+      -- Without the mark it was not allowed, or not fresh.
+      left : HandlesNumber pageAccess rights stored (received k good) n → (r : Bool) → rights .readonly ≡ r
+          → not (rights .readonly) && isFresh (numberOn page) n ≡ false → messageOutcome pageAccess rights stored (received k good) .next ≡ stored
+      left t true rs z = ap (λ (o : Outcome (List ℕ)). o .next) (t .not-allowed rs)
+      left t false rs z = ap (λ (o : Outcome (List ℕ)). o .next) (t .stale rs (subst (λ (r : Bool). not r && isFresh (numberOn page) n ≡ false) rs z))
 
   mark-is-fresh : (n : ℕ) → numberFound b c ≡ some n → MarkIsFresh b page c n
   unfolding callOf stepBy
@@ -200,7 +217,7 @@ marks-fresh b page c n e = mark-is-fresh b page c n e
 
 -- ---- a history
 
-acts-lead : (b : Board) (page : List ℕ) (acts : List (Act Call)) → Leads (numberOn page) (acceptedFrom b page acts) (numberOn (actsFrom b page acts .page))
+acts-lead : (b : Board) (page : List ℕ) (acts : List (Act Profile Call)) → Leads (numberOn page) (acceptedFrom b page acts) (numberOn (actsFrom b page acts .page))
 unfolding actsFrom acceptedFrom
 acts-lead b page [] = refl
 acts-lead b page (call c ∷ acts) =
@@ -208,11 +225,11 @@ acts-lead b page (call c ∷ acts) =
     leads-append (numberOn page) (numberOn (f .page)) (numberOn (actsFrom (f .answer .board) (f .page) acts .page))
     (acceptedBy b c f) (acceptedFrom (f .answer .board) (f .page) acts)
     (feed-leads b page c) (acts-lead (f .answer .board) (f .page) acts)
-acts-lead b page (restart ∷ acts) = acts-lead (startOf page .board) page acts
+acts-lead b page (restart profile ∷ acts) = acts-lead (startOf profile page .board) page acts
 
 pub no-number-twice : NoNumberTwice
-no-number-twice page acts =
-    let b : Board = startOf page .board in
+no-number-twice profile page acts =
+    let b : Board = startOf profile page .board in
     let ns : List ℕ = acceptedFrom b page acts in
     let after : Stored = numberOn (actsFrom b page acts .page) in
     let l : Leads (numberOn page) ns after = acts-lead b page acts in
@@ -242,10 +259,10 @@ module _ (b : Board) (page : List ℕ) (c : Call) (last : ℕ) (zeroth : c .port
   step-same p (Starved k) e = record { settings-same = refl; page-same = refl }
   step-same p (Found k l good) e =
       let m : Received = received b page c k good in
-      let u : messageOutcome pageAccess 0 (stored b page c) m .next ≡ stored b page c =
-      port-zero-guarded (stored b page c) m last kept (ap (carriesFresh (Value last)) e) .next in
-      let z : messageOutcome pageAccess (c .port) (stored b page c) m .next ≡ stored b page c =
-      subst (λ (port : ℕ). messageOutcome pageAccess port (stored b page c) m .next ≡ stored b page c) (sym zeroth) u in
+      let u : messageOutcome pageAccess guardedRights (stored b page c) m .next ≡ stored b page c =
+      number-guards (stored b page c) m last kept (ap (carriesFresh (Value last)) e) .next in
+      let z : messageOutcome pageAccess (rights b page c) (stored b page c) m .next ≡ stored b page c =
+      subst (λ (port : ℕ). messageOutcome pageAccess (rightsOf (b .readonly) port) (stored b page c) m .next ≡ stored b page c) (sym zeroth) u in
       subst (λ (a : Answering). Same (b .settings) page (a .answer .settings) (a .page)) (sym (answered b page c p k good))
       (record { settings-same = ap (λ (x : Kept). x .settings) z; page-same = ap (λ (x : Kept). x .page) z })
 
@@ -276,13 +293,13 @@ nothing-first : (ns ms : List ℕ) → ns ++ ms ≡ [] → (ns ≡ []) × (ms �
 nothing-first [] ms e = (refl, e)
 nothing-first (n ∷ ns) ms e = let z : _≡_ {A = ℕ} 0 1 = cc in absurd (omega arith)
 
-acts-same : (b : Board) (page : List ℕ) (acts : List (Act Call)) (last : ℕ) → numberOn page ≡ Value last → b .settings ≡ startOf page .board .settings
+acts-same : (b : Board) (page : List ℕ) (acts : List (Act Profile Call)) (last : ℕ) (w : Settings) → numberOn page ≡ Value last → b .settings ≡ w → ((profile : Profile) → startOf profile page .board .settings ≡ w)
     → onPortZero acts ≡ true → acceptedFrom b page acts ≡ []
-    → Same (startOf page .board .settings) page (actsFrom b page acts .board .settings) (actsFrom b page acts .page)
+    → Same w page (actsFrom b page acts .board .settings) (actsFrom b page acts .page)
 unfolding actsFrom acceptedFrom
-acts-same b page [] last k w z e = record { settings-same = w; page-same = refl }
-acts-same b page (restart ∷ acts) last k w z e = acts-same (startOf page .board) page acts last k refl z e
-acts-same b page (call c ∷ acts) last k w z e =
+acts-same b page [] last w k ws starts z e = record { settings-same = ws; page-same = refl }
+acts-same b page (restart profile ∷ acts) last w k ws starts z e = acts-same (startOf profile page .board) page acts last w k (starts profile) starts z e
+acts-same b page (call c ∷ acts) last w k ws starts z e =
     let f : Feeding = feeding b page c in
     let p = and-both (eqb (c .port) 0) (onPortZero acts) z in
     let n = nothing-first (acceptedBy b c f) (acceptedFrom (f .answer .board) (f .page) acts) e in
@@ -291,10 +308,19 @@ acts-same b page (call c ∷ acts) last k w z e =
     ap (λ (l : List ℕ). actsFrom (f .answer .board) l acts) (s .page-same) in
     let none-more : acceptedFrom (f .answer .board) page acts ≡ [] =
     subst (λ (l : List ℕ). acceptedFrom (f .answer .board) l acts ≡ []) (s .page-same) (n .1) in
-    subst (λ (r : Calls). Same (startOf page .board .settings) page (r .board .settings) (r .page)) (sym same)
-    (acts-same (f .answer .board) page acts last k (s .settings-same ∙ w) (p .1) none-more)
+    subst (λ (r : Calls). Same w page (r .board .settings) (r .page)) (sym same)
+    (acts-same (f .answer .board) page acts last w k (s .settings-same ∙ ws) starts (p .1) none-more)
+
+-- A start sets the same values in every profile.
+start-settings : (p q : Profile) (page : List ℕ) → startOf p page .board .settings ≡ startOf q page .board .settings
+unfolding startOf
+start-settings p q page = go (pageNumber page)
+  where
+    go : (n : ℕ) → startOn n p page .board .settings ≡ startOn n q page .board .settings
+    go zero = refl
+    go (suc n) = refl
 
 pub replay-changes-nothing : ReplayChangesNothing
-replay-changes-nothing page acts last k z e =
-    let s = acts-same (startOf page .board) page acts last k refl z e in
+replay-changes-nothing profile page acts last k z e =
+    let s = acts-same (startOf profile page .board) page acts last (startOf profile page .board .settings) k refl (λ next. start-settings next profile page) z e in
     record { page-same = s .page-same; settings-same = s .settings-same }

@@ -8,6 +8,7 @@ use lib.Dec.{eqb, ltb}
 use lib.ListN.{length, take, drop}
 use borrow.Author.Tests.{lt-ltb, le-ltb, eq-eqb, ne-eqb, eqb-true}
 use Rattle.command.specs.declared.settings.Settings.{Settings}
+use Rattle.board.specs.Profile.{Profile, rightsOf}
 use Rattle.board.specs.declared.board.Board.{Board}
 use Rattle.board.specs.declared.feeding.Stepped.{Stepped}
 use Rattle.board.specs.Port.{portRoom, heldBytes, portHolding, portOf}
@@ -39,13 +40,13 @@ module _ (port : ℕ) (bytes : List ℕ) (first second : ℕ) (w : Settings) (ro
   place-rest p h n e = rw (le-ltb 1 port p, eq-eqb (length bytes) 260 h) e
 
   module _ (n : ℕ) (ns : n ≡ placeNumber port bytes first second w room page) (h : ℕ) (hs : h ≡ namedHeld port first second) where
-    pub place-refused : (i : Input) → (n ≡ 0 → ⊥)
+    pub place-refused : (profile : Profile) (i : Input) → (n ≡ 0 → ⊥)
         → record { step = record { number = n; taken = 0; skipped = 0; saved = false; held = h; settings = w }; bytes = bytes; room = room; page = page }
-        ≡ placeBy port bytes first second w i room page
+        ≡ placeBy port bytes first second w profile i room page
     unfolding placeBy
-    place-refused i z = rw (hs, ← ns) (go n z)
+    place-refused profile i z = rw (hs, ← ns) (go n z)
       where
-        go : (n : ℕ) → (n ≡ 0 → ⊥) → refusedStepping n (namedHeld port first second) w bytes room page ≡ placeOn n port bytes (namedHeld port first second) w i room page
+        go : (n : ℕ) → (n ≡ 0 → ⊥) → refusedStepping n (namedHeld port first second) w bytes room page ≡ placeOn n (rightsOf profile port) bytes (namedHeld port first second) w i room page
         go zero z = absurd (z refl)
         go (suc n) z = refl
 
@@ -74,12 +75,12 @@ module _ (port : ℕ) (bytes : List ℕ) (first second : ℕ) (w : Settings) (ro
         go (suc q) = p .second-few
 
     pub place-done : n ≡ 0 → (quiet : Bool) (chunk : List ℕ) (brings : ℕ) → brings ≡ length (chunkOf (inputOf quiet chunk))
-        → (r : Stepped) (bytesAfter roomAfter pageAfter : List ℕ)
-        → record { step = r; bytes = bytesAfter; room = roomAfter; page = pageAfter } ≡ inPlace (stepAt port quiet (take h bytes) w (take (brings - 0) (drop 0 chunk)) room page)
-        → record { step = r; bytes = bytesAfter; room = roomAfter; page = pageAfter } ≡ placeBy port bytes first second w (inputOf quiet chunk) room page
+        → (profile : Profile) (r : Stepped) (bytesAfter roomAfter pageAfter : List ℕ)
+        → record { step = r; bytes = bytesAfter; room = roomAfter; page = pageAfter } ≡ inPlace (stepAt (rightsOf profile port) quiet (take h bytes) w (take (brings - 0) (drop 0 chunk)) room page)
+        → record { step = r; bytes = bytesAfter; room = roomAfter; page = pageAfter } ≡ placeBy port bytes first second w profile (inputOf quiet chunk) room page
     unfolding placeBy
-    place-done z quiet chunk brings bs r bytesAfter roomAfter pageAfter e =
-        e ∙ rw (step-brings port quiet chunk brings bs (take h bytes) w room page, ← ns, z, hs)
+    place-done z quiet chunk brings bs profile r bytesAfter roomAfter pageAfter e =
+        e ∙ rw (step-brings quiet chunk brings bs (rightsOf profile port) (take h bytes) w room page, ← ns, z, hs)
 
 -- ---- the call of the board
 
@@ -111,14 +112,14 @@ in-place-is-call port b i room page l =
     rw (same-number port (portOf port b .bytes) (b .first .held) (b .second .held) (b .settings) room page l, held-is port b)
     (go (feedNumber port (b .first .held) (b .second .held) (b .settings) room page))
   where
-    go : (n : ℕ) → putBack port b (placeOn n port (portOf port b .bytes) (portOf port b .held) (b .settings) i room page) ≡ acceptOn n port b i room page
-    go zero = put-done port b (stepBy port (heldBytes (portOf port b)) (b .settings) i room page)
+    go : (n : ℕ) → putBack port b (placeOn n (rightsOf (b .readonly) port) (portOf port b .bytes) (portOf port b .held) (b .settings) i room page) ≡ acceptOn n port b i room page
+    go zero = put-done port b (stepBy (rightsOf (b .readonly) port) (heldBytes (portOf port b)) (b .settings) i room page)
     go (suc n) = put-refused port b (suc n) room page
 
 pub in-place-is-start : InPlaceIsStart
 unfolding startPlaceOf startOf
-in-place-is-start first second page l m = rw (eq-eqb (length first) portRoom l, eq-eqb (length second) portRoom m) (go (pageNumber page))
+in-place-is-start profile first second page l m = rw (eq-eqb (length first) portRoom l, eq-eqb (length second) portRoom m) (go (pageNumber page))
   where
-    go : (n : ℕ) → putIn (startInPlace (startOn n page)) ≡ startOn n page
+    go : (n : ℕ) → putIn (startInPlace (startOn n profile page)) ≡ startOn n profile page
     go zero = refl
     go (suc n) = refl

@@ -4,6 +4,7 @@ pub mod Follows
 pub mod Handles
 pub mod Histories
 pub mod InPlace
+pub mod Interference
 pub mod Kept
 pub mod Places
 pub mod Reckons
@@ -12,3 +13,4 @@ pub mod Sampled
 pub mod Silences
 pub mod Starts
 pub mod Steps
+pub mod Unprofiled

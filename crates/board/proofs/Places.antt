@@ -21,11 +21,13 @@ use Rattle.history.specs.Calls.{Input, chunkOf}
 use Rattle.message.specs.Front.{front, mostUndecided}
 use Rattle.message.specs.Whole.{refuse}
 use Rattle.message.proofs.Framed.{cutting-harmless}
+use Rattle.command.specs.declared.rights.Rights.{Rights}
 use Rattle.command.specs.declared.settings.Settings.{Settings}
 use Rattle.command.specs.Outcome.{receivedOf}
 use Rattle.command.specs.declared.answer.Answer.{Answer}
 use Rattle.command.specs.Answer.{Answering, answering}
 use Rattle.command.specs.Effects.{settingsUsable}
+use Rattle.board.specs.Profile.{rightsOf}
 use Rattle.board.specs.declared.feeding.Stepped.{Stepped}
 use Rattle.board.specs.declared.board.Board.{Board}
 use Rattle.board.specs.declared.board.Fed.{Fed}
@@ -72,13 +74,13 @@ module _ (b chunk : List ℕ) (held : ℕ) (few : held ≤ 260) (long : length b
     pub found-at : k ≤ held + length chunk
     found-at = omega arith
 
-    pub found-step : (port : ℕ) (w : Settings) (room page : List ℕ) (a : Answer) (roomAfter pageAfter : List ℕ)
-        → record { answer = a; room = roomAfter; page = pageAfter } ≡ answering port (receivedOf good (drop k (take held b ++ chunk))) w room page
+    pub found-step : (rights : Rights) (w : Settings) (room page : List ℕ) (a : Answer) (roomAfter pageAfter : List ℕ)
+        → record { answer = a; room = roomAfter; page = pageAfter } ≡ answering rights (receivedOf good (drop k (take held b ++ chunk))) w room page
         → (l : ℕ) → l ≡ length (leftOf k n good (take held b) chunk)
         → (y : List ℕ) → y ≡ padded (leftOf k n good (take held b) chunk)
         → (r : Stepped) → r ≡ record { number = 0; taken = k + n - held; skipped = skippedBy k good; saved = a .saved; held = l; settings = a .settings }
-        → record { step = r; bytes = y; room = roomAfter; page = pageAfter } ≡ inPlace (stepOn port (Found k n good) (take held b) w chunk room page)
-    found-step port w room page a roomAfter pageAfter g l ls y ys r rs =
+        → record { step = r; bytes = y; room = roomAfter; page = pageAfter } ≡ inPlace (stepOn rights (Found k n good) (take held b) w chunk room page)
+    found-step rights w room page a roomAfter pageAfter g l ls y ys r rs =
         let h : k + n - length (take held b) ≡ k + n - held = ap (λ (i : ℕ). k + n - i) held-long in
         rw (rs, ys, ls, ← h)
         (ap (λ (g : Answering). record {
@@ -138,11 +140,11 @@ module _ (b chunk : List ℕ) (held : ℕ) (few : held ≤ 260) (long : length b
     pub starved-few : held + length chunk - k ≤ 260
     starved-few = omega (arith, row, left-few, length-drop k (take held b ++ chunk))
 
-    pub starved-step : (port : ℕ) (w : Settings) (room page y : List ℕ) (r : Stepped)
+    pub starved-step : (rights : Rights) (w : Settings) (room page y : List ℕ) (r : Stepped)
         → r ≡ record { number = 1; taken = length chunk; skipped = k; saved = false; held = length (drop k (take held b ++ chunk)); settings = w }
         → y ≡ padded (drop k (take held b ++ chunk))
-        → record { step = r; bytes = y; room = room; page = page } ≡ inPlace (stepAt port quiet (take held b) w chunk room page)
-    starved-step port w room page y r rs ys = rw (← is, e, rs, ys)
+        → record { step = r; bytes = y; room = room; page = page } ≡ inPlace (stepAt rights quiet (take held b) w chunk room page)
+    starved-step rights w room page y r rs ys = rw (← is, e, rs, ys)
 
   module _ (k n : ℕ) (good : Bool) (e : q ≡ Found k n good) where
     sized : Sized mostUndecided (take held b ++ chunk) k n
@@ -157,10 +159,10 @@ module _ (b chunk : List ℕ) (held : ℕ) (few : held ≤ 260) (long : length b
     pub found-in : k + n ≤ held + length chunk
     found-in = omega (arith, row, sized .inside)
 
-    pub found-whole : (port : ℕ) (w : Settings) (room page : List ℕ) (x : Stepping)
-        → x ≡ inPlace (stepOn port (Found k n good) (take held b) w chunk room page)
-        → x ≡ inPlace (stepAt port quiet (take held b) w chunk room page)
-    found-whole port w room page x xs = rw (← is, e) xs
+    pub found-whole : (rights : Rights) (w : Settings) (room page : List ℕ) (x : Stepping)
+        → x ≡ inPlace (stepOn rights (Found k n good) (take held b) w chunk room page)
+        → x ≡ inPlace (stepAt rights quiet (take held b) w chunk room page)
+    found-whole rights w room page x xs = rw (← is, e) xs
 
 -- ---- the bytes that a call brings
 
@@ -171,7 +173,7 @@ module _ (quiet : Bool) (chunk : List ℕ) where
   pub brings-all : quiet ≡ false → length chunk ≡ length (chunkOf (inputOf quiet chunk))
   brings-all e = rw e
 
-module _ (port : ℕ) (quiet : Bool) (chunk : List ℕ) (brings : ℕ) (bs : brings ≡ length (chunkOf (inputOf quiet chunk))) where
+module _ (quiet : Bool) (chunk : List ℕ) (brings : ℕ) (bs : brings ≡ length (chunkOf (inputOf quiet chunk))) where
   pub brings-inside : brings ≤ length chunk
   brings-inside = rw bs (go quiet)
     where
@@ -179,12 +181,12 @@ module _ (port : ℕ) (quiet : Bool) (chunk : List ℕ) (brings : ℕ) (bs : bri
       go true = omega arith
       go false = omega arith
 
-  pub step-brings : (held : List ℕ) (w : Settings) (room page : List ℕ)
-      → stepAt port quiet held w (take (brings - 0) (drop 0 chunk)) room page ≡ stepBy port held w (inputOf quiet chunk) room page
+  pub step-brings : (rights : Rights) (held : List ℕ) (w : Settings) (room page : List ℕ)
+      → stepAt rights quiet held w (take (brings - 0) (drop 0 chunk)) room page ≡ stepBy rights held w (inputOf quiet chunk) room page
   unfolding stepBy
-  step-brings held w room page = rw bs (go quiet)
+  step-brings rights held w room page = rw bs (go quiet)
     where
-      go : (quiet : Bool) → stepAt port quiet held w (take (length (chunkOf (inputOf quiet chunk)) - 0) chunk) room page ≡ stepBy port held w (inputOf quiet chunk) room page
+      go : (quiet : Bool) → stepAt rights quiet held w (take (length (chunkOf (inputOf quiet chunk)) - 0) chunk) room page ≡ stepBy rights held w (inputOf quiet chunk) room page
       go true = refl
       go false = rw (take-all (length chunk - 0) chunk (omega arith))
 
@@ -201,13 +203,13 @@ module _ (b : Board) (s : PortStep) (r : Stepped) (y room page : List ℕ) (e : 
           taken = r .taken;
           skipped = r .skipped;
           saved = r .saved;
-          board = record { first = record { bytes = y; held = r .held }; second = b .second; settings = r .settings };
+          board = record { first = record { bytes = y; held = r .held }; second = b .second; settings = r .settings; readonly = b .readonly };
         };
         room = room;
         page = page;
       } ≡ feedOn s 0 b
   unfolding portHolding
-  fed-first = ap (λ (t : Stepping). fedBy t (record { first = record { bytes = t .bytes; held = t .step .held }; second = b .second; settings = t .step .settings })) e
+  fed-first = ap (λ (t : Stepping). fedBy t (record { first = record { bytes = t .bytes; held = t .step .held }; second = b .second; settings = t .step .settings; readonly = b .readonly })) e
 
   pub fed-second :
       record {
@@ -216,13 +218,13 @@ module _ (b : Board) (s : PortStep) (r : Stepped) (y room page : List ℕ) (e : 
           taken = r .taken;
           skipped = r .skipped;
           saved = r .saved;
-          board = record { first = b .first; second = record { bytes = y; held = r .held }; settings = r .settings };
+          board = record { first = b .first; second = record { bytes = y; held = r .held }; settings = r .settings; readonly = b .readonly };
         };
         room = room;
         page = page;
       } ≡ feedOn s 1 b
   unfolding portHolding
-  fed-second = ap (λ (t : Stepping). fedBy t (record { first = b .first; second = record { bytes = t .bytes; held = t .step .held }; settings = t .step .settings })) e
+  fed-second = ap (λ (t : Stepping). fedBy t (record { first = b .first; second = record { bytes = t .bytes; held = t .step .held }; settings = t .step .settings; readonly = b .readonly })) e
 
 -- ---- the tests, then the port
 
@@ -259,19 +261,19 @@ module _ (port : ℕ) (b : Board) (room page : List ℕ) (n : ℕ) (ns : n ≡ f
   -- `brings` bytes of the chunk are handed on.
   module _ (quiet : Bool) (chunk : List ℕ) (brings : ℕ) (bs : brings ≡ length (chunkOf (inputOf quiet chunk))) (r : Fed) (roomAfter pageAfter : List ℕ) where
     pub call-on-first : n ≡ 0 → port ≡ 0
-        → record { answer = r; room = roomAfter; page = pageAfter } ≡ feedOn (stepAt port quiet (heldBytes (b .first)) (b .settings) (take (brings - 0) (drop 0 chunk)) room page) 0 b
+        → record { answer = r; room = roomAfter; page = pageAfter } ≡ feedOn (stepAt (rightsOf (b .readonly) port) quiet (heldBytes (b .first)) (b .settings) (take (brings - 0) (drop 0 chunk)) room page) 0 b
         → record { answer = r; room = roomAfter; page = pageAfter } ≡ callOf port b (inputOf quiet chunk) room page
     unfolding callOf
-    call-on-first z p e = e ∙ rw (← ns, z, p, step-brings 0 quiet chunk brings bs (heldBytes (b .first)) (b .settings) room page)
+    call-on-first z p e = e ∙ rw (← ns, z, step-brings quiet chunk brings bs (rightsOf (b .readonly) port) (heldBytes (b .first)) (b .settings) room page, p)
 
     pub call-on-second : n ≡ 0 → (port ≡ 0 → ⊥)
-        → record { answer = r; room = roomAfter; page = pageAfter } ≡ feedOn (stepAt port quiet (heldBytes (b .second)) (b .settings) (take (brings - 0) (drop 0 chunk)) room page) 1 b
+        → record { answer = r; room = roomAfter; page = pageAfter } ≡ feedOn (stepAt (rightsOf (b .readonly) port) quiet (heldBytes (b .second)) (b .settings) (take (brings - 0) (drop 0 chunk)) room page) 1 b
         → record { answer = r; room = roomAfter; page = pageAfter } ≡ callOf port b (inputOf quiet chunk) room page
     unfolding callOf
-    call-on-second z p e = e ∙ rw (← ns, z, step-brings port quiet chunk brings bs (heldBytes (b .second)) (b .settings) room page) (go port p)
+    call-on-second z p e = e ∙ rw (← ns, z, step-brings quiet chunk brings bs (rightsOf (b .readonly) port) (heldBytes (b .second)) (b .settings) room page) (go port p)
       where
         go : (port : ℕ) → (port ≡ 0 → ⊥)
-            → feedOn (stepBy port (heldBytes (b .second)) (b .settings) (inputOf quiet chunk) room page) 1 b
-            ≡ feedOn (stepBy port (heldBytes (portOf port b)) (b .settings) (inputOf quiet chunk) room page) port b
+            → feedOn (stepBy (rightsOf (b .readonly) port) (heldBytes (b .second)) (b .settings) (inputOf quiet chunk) room page) 1 b
+            ≡ feedOn (stepBy (rightsOf (b .readonly) port) (heldBytes (portOf port b)) (b .settings) (inputOf quiet chunk) room page) port b
         go zero p = absurd (p refl)
         go (suc port) p = refl

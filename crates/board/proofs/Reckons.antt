@@ -28,6 +28,7 @@ use Rattle.command.specs.declared.settings.Settings.{Settings}
 use Rattle.command.specs.Answer.{settingsFrom, replyRoom}
 use Rattle.command.proofs.Keeps.{starts-usable}
 use Rattle.command.specs.Effects.{settingsUsable}
+use Rattle.board.specs.Profile.{Profile}
 use Rattle.board.specs.declared.board.Board.{Board}
 use Rattle.board.specs.declared.board.Started.{Started}
 use Rattle.board.specs.Port.{portRoom, heldBytes, portHolding, portOf}
@@ -36,27 +37,29 @@ use Rattle.board.specs.Feed.{Feeding, callOf}
 use Rattle.board.specs.Handling.{Reckoned, Kept, loadedOf, settingsOf, reckonMessage, handleMessage, keptTests, StoredAs}
 use Rattle.board.specs.Runs.{Call, Calls, callsFrom, callsOn, callFrom, toldOf, reckonedOn, Told, AllTold}
 use Rattle.board.specs.Theorems.{AsReckoned, Demand3, FeedsDemand3, OneMore, answersOf, AnyListsAddUp, DrainedOn, DrainedAlike, historyOn, heldOn, PortAddsUp, SumLaw, ReportsScanned}
+use Rattle.board.proofs.Follows.{call-profile, start-profile}
 use Rattle.board.proofs.Handles.{loaded-same, loaded-usable, handles}
 use Rattle.board.proofs.Steps.{stateOf, Padded, Same, step-same}
 
 -- ---- lists of calls of the board are lists of calls of the program that keeps only held bytes
 
-abbrev programFrom : State (List ℕ) Kept → List CallOf → Run (State (List ℕ) Kept)
-programFrom s fs = run (heldStep front handleMessage 260 replyRoom keptTests) s fs
+abbrev programFrom : Profile → State (List ℕ) Kept → List CallOf → Run (State (List ℕ) Kept)
+programFrom profile s fs = run (heldStep front (handleMessage profile) 260 replyRoom keptTests) s fs
 
 pub record Followed (cs : List Call) (r : Calls) (q : Run (State (List ℕ) Kept)) : Type 0 where
   pub told : AllTold cs (r .feedings) (q .answers)
   pub final : q .final ≡ stateOf (r .board) (r .page)
   pub padded : Padded (r .board)
 
-followed : (cs : List Call) (b : Board) (page : List ℕ) → Padded b → Followed cs (callsFrom b page cs) (programFrom (stateOf b page) (toldOf cs))
+followed : (cs : List Call) (b : Board) (page : List ℕ) → Padded b → Followed cs (callsFrom b page cs) (programFrom (b .readonly) (stateOf b page) (toldOf cs))
 unfolding callsFrom run
 followed [] b page k = record { told = tt; final = refl; padded = k }
 followed (c ∷ cs) b page k =
     let f : Feeding = callOf (c .port) b (c .input) (c .room) page in
-    let s : Same b c f (heldStep front handleMessage 260 replyRoom keptTests (stateOf b page) (callFrom c)) = step-same b page c k in
-    let rest : Followed cs (callsFrom (f .answer .board) (f .page) cs) (programFrom (stateOf (f .answer .board) (f .page)) (toldOf cs)) =
-    followed cs (f .answer .board) (f .page) (s .padded) in
+    let s : Same b c f (heldStep front (handleMessage (b .readonly)) 260 replyRoom keptTests (stateOf b page) (callFrom c)) = step-same b page c k in
+    let rest : Followed cs (callsFrom (f .answer .board) (f .page) cs) (programFrom (b .readonly) (stateOf (f .answer .board) (f .page)) (toldOf cs)) =
+    subst (λ (profile : Profile). Followed cs (callsFrom (f .answer .board) (f .page) cs) (programFrom profile (stateOf (f .answer .board) (f .page)) (toldOf cs)))
+    (s .profile) (followed cs (f .answer .board) (f .page) (s .padded)) in
     rw (s .state) (record { told = (s .told, rest .told); final = rest .final; padded = rest .padded })
 
 -- Answers that tell the same numbers tell alike whether the list is drained.
@@ -97,38 +100,38 @@ settings-same v a = rw (← loaded-same v a)
 pub settings-usable : (v : Values) → allStorable v ≡ true → settingsUsable (settingsOf v) ≡ true
 settings-usable v a = starts-usable (loadedOf v) (loaded-usable v a)
 
-pub started : (v : Values) → allStorable v ≡ true → startOf (writing v) ≡ record { number = 0; board = freshBoard (settingsOf v) }
+pub started : (profile : Profile) (v : Values) → allStorable v ≡ true → startOf profile (writing v) ≡ record { number = 0; board = freshBoard profile (settingsOf v) }
 unfolding startOf
-started v a = rw (sound-passes (writing v) (writing-sound v a)) (ap (λ (w : Settings). record { number = 0; board = freshBoard w }) (settings-same v a))
+started profile v a = rw (sound-passes (writing v) (writing-sound v a)) (ap (λ (w : Settings). record { number = 0; board = freshBoard profile w }) (settings-same v a))
 
-pub fresh-padded : (w : Settings) → Padded (freshBoard w)
+pub fresh-padded : (profile : Profile) (w : Settings) → Padded (freshBoard profile w)
 unfolding portHolding
-fresh-padded w = record { first = refl; second = refl }
+fresh-padded profile w = record { first = refl; second = refl }
 
 -- ---- the whole
 
-module _ (v : Values) (cs : List Call) (a : allStorable v ≡ true) where
+module _ (profile : Profile) (v : Values) (cs : List Call) (a : allStorable v ≡ true) where
   abbrev w : Settings
   w = settingsOf v
 
   abbrev calls : Calls
-  calls = callsFrom (freshBoard w) (writing v) cs
+  calls = callsFrom (freshBoard profile w) (writing v) cs
 
   abbrev reckoned : Run (State Ledger Reckoned)
-  reckoned = reckonedOn v cs
+  reckoned = reckonedOn profile v cs
 
   abbrev program : Run (State (List ℕ) Kept)
-  program = programFrom (stateOf (freshBoard w) (writing v)) (toldOf cs)
+  program = programFrom profile (stateOf (freshBoard profile w) (writing v)) (toldOf cs)
 
   stored : StoredAs (record { settings = w; page = v }) (record { settings = w; page = writing v })
   stored = record { settings = refl; page = refl; settings-usable = settings-usable v a; values-storable = a }
 
   follows : Followed cs calls program
-  follows = followed cs (freshBoard w) (writing v) (fresh-padded w)
+  follows = followed cs (freshBoard profile w) (writing v) (fresh-padded profile w)
 
   few : (p : ℕ) → length (keptPort p (program .final)) ≤ portRoom
   unfolding heldProgram
-  few p = heldFew front mostUndecided replyRoom keptTests handleMessage cutting-harmless p (record { settings = w; page = writing v }) (toldOf cs)
+  few p = heldFew front mostUndecided replyRoom keptTests (handleMessage profile) cutting-harmless p (record { settings = w; page = writing v }) (toldOf cs)
 
   -- Whether the list is drained, the calls' own answers, the program's and the reckoning's tell alike.
   program-alike : drained (toldOf cs) (answersOf (calls .feedings)) ≡ drained (toldOf cs) (program .answers)
@@ -138,13 +141,13 @@ module _ (v : Values) (cs : List Call) (a : allStorable v ≡ true) where
   unfolding heldProgram
   reckoned-alike =
       program-alike
-      ∙ drainedAlike front mostUndecided replyRoom StoredAs reckonMessage keptTests handleMessage cutting-harmless handles
+      ∙ drainedAlike front mostUndecided replyRoom StoredAs (reckonMessage profile) keptTests (handleMessage profile) cutting-harmless (handles profile)
       (record { settings = w; page = v }) (record { settings = w; page = writing v }) (toldOf cs) stored
 
   matched : drained (toldOf cs) (answersOf (calls .feedings)) ≡ true → Matches StoredAs reckoned program
   unfolding heldProgram
   matched d =
-      demand3 front mostUndecided replyRoom StoredAs reckonMessage keptTests handleMessage cutting-harmless handles
+      demand3 front mostUndecided replyRoom StoredAs (reckonMessage profile) keptTests (handleMessage profile) cutting-harmless (handles profile)
       (record { settings = w; page = v }) (record { settings = w; page = writing v }) (toldOf cs) stored (sym reckoned-alike ∙ d)
 
   whole : drained (toldOf cs) (answersOf (calls .feedings)) ≡ true → AsReckoned cs calls reckoned
@@ -161,12 +164,12 @@ module _ (v : Values) (cs : List Call) (a : allStorable v ≡ true) where
   unfolding heldProgram
   sums port h =
       rw (← port-held port)
-      (portSums front mostUndecided replyRoom keptTests handleMessage cutting-harmless port (record { settings = w; page = writing v }) (toldOf cs) h)
+      (portSums front mostUndecided replyRoom keptTests (handleMessage profile) cutting-harmless port (record { settings = w; page = writing v }) (toldOf cs) h)
 
   account : (port : ℕ) → port ≤ 1 → drained (toldOf cs) (answersOf (calls .feedings)) ≡ true → PortAccount front (historyOf port unfed (toldOf cs) (program .answers))
   unfolding heldProgram
   account port h d =
-      portAccounts front mostUndecided replyRoom StoredAs reckonMessage keptTests handleMessage cutting-harmless handles port
+      portAccounts front mostUndecided replyRoom StoredAs (reckonMessage profile) keptTests (handleMessage profile) cutting-harmless (handles profile) port
       (record { settings = w; page = v }) (record { settings = w; page = writing v }) (toldOf cs) h stored (sym program-alike ∙ d)
 
   scanned : (port : ℕ) → port ≤ 1 → drained (toldOf cs) (answersOf (calls .feedings)) ≡ true → PortAccount front (historyOf port unfed (toldOf cs) (reckoned .answers))
@@ -177,24 +180,24 @@ module _ (v : Values) (cs : List Call) (a : allStorable v ≡ true) where
   summed port h d = rw (← matched d .answers) (sums port h)
 
 -- A start on the page of storable values gives the fresh board.
-start-board : (v : Values) → allStorable v ≡ true → startOf (writing v) .board ≡ freshBoard (settingsOf v)
-start-board v a = ap (λ (s : Started). s .board) (started v a)
+start-board : (profile : Profile) (v : Values) → allStorable v ≡ true → startOf profile (writing v) .board ≡ freshBoard profile (settingsOf v)
+start-board profile v a = ap (λ (s : Started). s .board) (started profile v a)
 
 pub any-lists-add-up : AnyListsAddUp
 unfolding heldProgram
-any-lists-add-up v cs a =
-    record { told = rw (start-board v a) (follows v cs a .told); sums = λ port h. rw (start-board v a) (sums v cs a port h) }
+any-lists-add-up profile v cs a =
+    record { told = rw (start-board profile v a) (follows profile v cs a .told); sums = λ port h. rw (start-board profile v a) (sums profile v cs a port h) }
 
 pub drained-alike : DrainedAlike
-drained-alike v cs a = rw (start-board v a) (reckoned-alike v cs a)
+drained-alike profile v cs a = rw (start-board profile v a) (reckoned-alike profile v cs a)
 
 pub reports-scanned : ReportsScanned
-reports-scanned v cs port a h d =
-    let e = rw (start-board v a) at d in
-    (rw (start-board v a) (summed v cs a port h e), scanned v cs a port h e)
+reports-scanned profile v cs port a h d =
+    let e = rw (start-board profile v a) at d in
+    (rw (start-board profile v a) (summed profile v cs a port h e), scanned profile v cs a port h e)
 
-as-reckoned : (v : Values) (cs : List Call) → allStorable v ≡ true → DrainedOn v cs → AsReckoned cs (callsOn v cs) (reckonedOn v cs)
-as-reckoned v cs a d = rw (start-board v a) (whole v cs a (rw (start-board v a) at d))
+as-reckoned : (profile : Profile) (v : Values) (cs : List Call) → allStorable v ≡ true → DrainedOn profile v cs → AsReckoned cs (callsOn profile v cs) (reckonedOn profile v cs)
+as-reckoned profile v cs a d = rw (start-board profile v a) (whole profile v cs a (rw (start-board profile v a) at d))
 
 -- ---- every page that starting accepts
 
@@ -207,19 +210,28 @@ page-sound page e = go (eqb (length page) pageSize) refl (sound page) refl
     go true p true q = refl
     go true p false q = let z : _≡_ {A = ℕ} 0 20 = cc in absurd (omega arith)
 
+-- No list of calls changes the profile.
+list-profile : (cs : List Call) (b : Board) (page : List ℕ) → callsFrom b page cs .board .readonly ≡ b .readonly
+unfolding callsFrom
+list-profile [] b page = refl
+list-profile (c ∷ cs) b page =
+    let f : Feeding = callOf (c .port) b (c .input) (c .room) page in
+    list-profile cs (f .answer .board) (f .page) ∙ call-profile (c .port) b (c .input) (c .room) page
+
 pub board-demand3 : Demand3
-board-demand3 page cs e d =
+board-demand3 profile page cs e d =
     let i = sound-is-writing page (page-sound page e) in
     record {
       values = valuesIn page;
       storable-values = i .storable-values;
       written = i .written;
-      started = ap (λ (p : List ℕ). startOf p .number) (i .written) ∙ ap (λ (s : Started). s .number) (started (valuesIn page) (i .storable-values));
-      reckoned = as-reckoned (valuesIn page) cs (i .storable-values) (rw (i .written) at d);
+      started = ap (λ (p : List ℕ). startOf profile p .number) (i .written) ∙ ap (λ (s : Started). s .number) (started profile (valuesIn page) (i .storable-values));
+      reckoned = as-reckoned profile (valuesIn page) cs (i .storable-values) (rw (i .written) at d);
+      profile-kept = list-profile cs (startOf profile (writing (valuesIn page)) .board) (writing (valuesIn page)) ∙ start-profile profile (writing (valuesIn page));
     }
 
 pub feeds-demand3 : FeedsDemand3
-feeds-demand3 page cs e f = board-demand3 page cs e (feedsDrained (toldOf cs) (answersOf (callsFrom (startOf page .board) page cs .feedings)) f)
+feeds-demand3 profile page cs e f = board-demand3 profile page cs e (feedsDrained (toldOf cs) (answersOf (callsFrom (startOf profile page .board) page cs .feedings)) f)
 
 pub one-more : OneMore
 unfolding callsFrom
@@ -264,8 +276,8 @@ unnamed-adds t held s k =
     }
 
 pub sum-law : SumLaw
-sum-law v cs port a h d =
-    let e : historyOn v cs port ≡ unnamed (historyOf port unfed (toldOf cs) (reckonedOn v cs .answers)) =
-    same-history port unfed cs (callsOn v cs .feedings) (reckonedOn v cs .answers) (as-reckoned v cs a d .told) in
-    let t = reports-scanned v cs port a h d in
-    rw e (unnamed-adds (historyOf port unfed (toldOf cs) (reckonedOn v cs .answers)) (heldOn v cs port) (t .0) (t .1))
+sum-law profile v cs port a h d =
+    let e : historyOn profile v cs port ≡ unnamed (historyOf port unfed (toldOf cs) (reckonedOn profile v cs .answers)) =
+    same-history port unfed cs (callsOn profile v cs .feedings) (reckonedOn profile v cs .answers) (as-reckoned profile v cs a d .told) in
+    let t = reports-scanned profile v cs port a h d in
+    rw e (unnamed-adds (historyOf port unfed (toldOf cs) (reckonedOn profile v cs .answers)) (heldOn profile v cs port) (t .0) (t .1))

@@ -21,6 +21,7 @@ use Rattle.page.specs.Lookup.{valuesIn}
 use Rattle.page.specs.Sound.{pageNumber}
 use Rattle.page.proofs.Pages.{sound-is-writing}
 use Rattle.command.specs.Answer.{replyRoom}
+use Rattle.board.specs.Profile.{Profile, full}
 use Rattle.board.specs.declared.board.Board.{Board}
 use Rattle.board.specs.declared.board.Started.{Started}
 use Rattle.board.specs.Port.{portRoom}
@@ -32,36 +33,37 @@ use Rattle.board.specs.Histories.{actsFrom, actsOn, acceptedFrom, accept
 use Rattle.board.specs.Theorems.{answersOf}
 use Rattle.board.specs.Restarts.{callsIn, toldActs, startAnew, reckonedActs, acceptedIn, HistoryDemand3, HistoryFeedsDemand3, HistoryDrainedAlike}
 use Rattle.board.proofs.Feedings.{calls-keep}
+use Rattle.board.proofs.Follows.{start-profile}
 use Rattle.board.proofs.Handles.{handles}
 use Rattle.board.proofs.Reckons.{Followed, followed-reckoned, settings-usable, started, fresh-padded, page-sound}
 use Rattle.board.proofs.Steps.{stateOf, Padded, Same, step-same}
 
 -- ---- starting anew
 
--- A started board is fresh, whatever the page.
-start-fresh : (page : List ℕ) → startOf page .board ≡ freshBoard (startOf page .board .settings)
+-- A started board is fresh, whatever the page, and its settings are the same in every profile.
+start-fresh : (profile : Profile) (page : List ℕ) → startOf profile page .board ≡ freshBoard profile (startOf full page .board .settings)
 unfolding startOf
-start-fresh page = go (pageNumber page)
+start-fresh profile page = go (pageNumber page)
   where
-    go : (n : ℕ) → startOn n page .board ≡ freshBoard (startOn n page .board .settings)
+    go : (n : ℕ) → startOn n profile page .board ≡ freshBoard profile (startOn n full page .board .settings)
     go zero = refl
     go (suc n) = refl
 
-start-padded : (page : List ℕ) → Padded (startOf page .board)
-start-padded page = subst Padded (sym (start-fresh page)) (fresh-padded (startOf page .board .settings))
+start-padded : (profile : Profile) (page : List ℕ) → Padded (startOf profile page .board)
+start-padded profile page = subst Padded (sym (start-fresh profile page)) (fresh-padded profile (startOf full page .board .settings))
 
 -- The board's start, as the program that keeps only held bytes makes it.
 abbrev startKept : Kept → Kept
-startKept x = record { settings = startOf (x .page) .board .settings; page = x .page }
+startKept x = record { settings = startOf full (x .page) .board .settings; page = x .page }
 
-start-state : (x : Kept) → startedOn [] startKept x ≡ stateOf (startOf (x .page) .board) (x .page)
-start-state x = sym (ap (λ (b : Board). stateOf b (x .page)) (start-fresh (x .page)))
+start-state : (profile : Profile) (x : Kept) → startedOn [] startKept x ≡ stateOf (startOf profile (x .page) .board) (x .page)
+start-state profile x = sym (ap (λ (b : Board). stateOf b (x .page)) (start-fresh profile (x .page)))
 
 starts-alike : (x : Reckoned) (y : Kept) → StoredAs x y → StoredAs (startAnew x) (startKept y)
 starts-alike x y r =
     record {
       settings =
-          sym (ap (λ (p : List ℕ). startOf p .board .settings) (r .page) ∙ ap (λ (s : Started). s .board .settings) (started (x .page) (r .values-storable)));
+          sym (ap (λ (p : List ℕ). startOf full p .board .settings) (r .page) ∙ ap (λ (s : Started). s .board .settings) (started full (x .page) (r .values-storable)));
       page = r .page;
       settings-usable = settings-usable (x .page) (r .values-storable);
       values-storable = r .values-storable;
@@ -69,45 +71,53 @@ starts-alike x y r =
 
 -- ---- histories of the board are histories of that program
 
-abbrev programFrom : State (List ℕ) Kept → List (Act CallOf) → Run (State (List ℕ) Kept)
-programFrom s acts = historyFrom (heldStep front handleMessage 260 replyRoom keptTests) (λ s. startedOn [] startKept (s .values)) s acts
+abbrev programFrom : Profile → State (List ℕ) Kept → List (Act Profile CallOf) → Run (State (List ℕ) Kept)
+programFrom profile s acts =
+    historyFrom (λ p. heldStep front (handleMessage p) 260 replyRoom keptTests) (λ s. startedOn [] startKept (s .values)) profile s acts
 
-record FollowedActs (acts : List (Act Call)) (r : Calls) (ns : List ℕ) (q : Run (State (List ℕ) Kept)) : Type 0 where
+record FollowedActs (acts : List (Act Profile Call)) (r : Calls) (ns : List ℕ) (q : Run (State (List ℕ) Kept)) : Type 0 where
   calls-told : Followed (callsIn acts) r q
   accepted-told : ns ≡ acceptedIn (q .answers)
 
-from-start : (x : Kept) (acts : List (Act Call)) (r : Calls) (ns : List ℕ)
-    → FollowedActs acts r ns (programFrom (stateOf (startOf (x .page) .board) (x .page)) (toldActs acts))
-    → FollowedActs acts r ns (programFrom (startedOn [] startKept x) (toldActs acts))
-from-start x acts r ns f = subst (λ (s : State (List ℕ) Kept). FollowedActs acts r ns (programFrom s (toldActs acts))) (sym (start-state x)) f
+from-start : (profile : Profile) (x : Kept) (acts : List (Act Profile Call)) (r : Calls) (ns : List ℕ)
+    → FollowedActs acts r ns (programFrom profile (stateOf (startOf profile (x .page) .board) (x .page)) (toldActs acts))
+    → FollowedActs acts r ns (programFrom profile (startedOn [] startKept x) (toldActs acts))
+from-start profile x acts r ns f =
+    subst (λ (s : State (List ℕ) Kept). FollowedActs acts r ns (programFrom profile s (toldActs acts))) (sym (start-state profile x)) f
 
-followed : (acts : List (Act Call)) (b : Board) (page : List ℕ) → Padded b
-    → FollowedActs acts (actsFrom b page acts) (acceptedFrom b page acts) (programFrom (stateOf b page) (toldActs acts))
+-- A board keeps its profile.
+in-profile : (acts : List (Act Profile Call)) (r : Calls) (ns : List ℕ) (s : State (List ℕ) Kept) {p q : Profile} → p ≡ q
+    → FollowedActs acts r ns (programFrom p s (toldActs acts)) → FollowedActs acts r ns (programFrom q s (toldActs acts))
+in-profile acts r ns s e f = subst (λ (p : Profile). FollowedActs acts r ns (programFrom p s (toldActs acts))) e f
+
+followed : (acts : List (Act Profile Call)) (b : Board) (page : List ℕ) → Padded b
+    → FollowedActs acts (actsFrom b page acts) (acceptedFrom b page acts) (programFrom (b .readonly) (stateOf b page) (toldActs acts))
 unfolding actsFrom acceptedFrom historyFrom
 followed [] b page k = record { calls-told = record { told = tt; final = refl; padded = k }; accepted-told = refl }
 followed (call c ∷ acts) b page k =
     let f : Feeding = callOf (c .port) b (c .input) (c .room) page in
-    let s : Same b c f (heldStep front handleMessage 260 replyRoom keptTests (stateOf b page) (callFrom c)) = step-same b page c k in
-    let rest = followed acts (f .answer .board) (f .page) (s .padded) in
+    let s : Same b c f (heldStep front (handleMessage (b .readonly)) 260 replyRoom keptTests (stateOf b page) (callFrom c)) = step-same b page c k in
+    let rest = in-profile acts _ _ (stateOf (f .answer .board) (f .page)) (s .profile) (followed acts (f .answer .board) (f .page) (s .padded)) in
     let t = rest .calls-told in
     rw (s .state)
     (record {
       calls-told = record { told = (s .told, t .told); final = t .final; padded = t .padded };
       accepted-told = cc (s .accepted, rest .accepted-told);
     })
-followed (restart ∷ acts) b page k =
+followed (restart profile ∷ acts) b page k =
     let x : Kept = record { settings = b .settings; page = page } in
-    let f = from-start x acts (actsFrom (startOf page .board) page acts) (acceptedFrom (startOf page .board) page acts) (followed acts (startOf page .board) page (start-padded page)) in
+    let f = from-start profile x acts (actsFrom (startOf profile page .board) page acts) (acceptedFrom (startOf profile page .board) page acts)
+    (in-profile acts _ _ (stateOf (startOf profile page .board) page) (start-profile profile page) (followed acts (startOf profile page .board) page (start-padded profile page))) in
     let t = f .calls-told in
     record { calls-told = record { told = t .told; final = t .final; padded = t .padded }; accepted-told = f .accepted-told }
 
 -- Answers that tell the same numbers tell alike whether the history is drained.
-told-drained : (u : Undrained) (acts : List (Act Call)) (fs : List Feeding) (answers : List Answer) → AllTold (callsIn acts) fs answers
+told-drained : (u : Undrained) (acts : List (Act Profile Call)) (fs : List Feeding) (answers : List Answer) → AllTold (callsIn acts) fs answers
     → drainedActs u (toldActs acts) (answersOf fs) ≡ drainedActs u (toldActs acts) answers
 unfolding drainedActs
 told-drained u [] [] answers e = refl
 told-drained u [] (f ∷ fs) answers e = refl
-told-drained u (restart ∷ acts) fs answers e = told-drained noSilence acts fs answers e
+told-drained u (restart profile ∷ acts) fs answers e = told-drained noSilence acts fs answers e
 told-drained u (call c ∷ acts) [] answers e = absurd e
 told-drained u (call c ∷ acts) (f ∷ fs) [] e = absurd e
 told-drained u (call c ∷ acts) (f ∷ fs) (a ∷ answers) e =
@@ -117,21 +127,21 @@ told-drained u (call c ∷ acts) (f ∷ fs) (a ∷ answers) e =
 
 -- ---- every start is done
 
-start-done : (page : List ℕ) → pageNumber page ≡ 0 → startOf page .number ≡ 0
+start-done : (profile : Profile) (page : List ℕ) → pageNumber page ≡ 0 → startOf profile page .number ≡ 0
 unfolding startOf
-start-done page e = rw e
+start-done profile page e = rw e
 
-acts-passing : (b : Board) (page : List ℕ) (acts : List (Act Call)) → pageNumber page ≡ 0 → pageNumber (actsFrom b page acts .page) ≡ 0
+acts-passing : (b : Board) (page : List ℕ) (acts : List (Act Profile Call)) → pageNumber page ≡ 0 → pageNumber (actsFrom b page acts .page) ≡ 0
 unfolding actsFrom
 acts-passing b page [] e = e
 acts-passing b page (call c ∷ acts) e =
     let f : Feeding = callOf (c .port) b (c .input) (c .room) page in
     acts-passing (f .answer .board) (f .page) acts (calls-keep (c .port) b (c .input) (c .room) page .page-sound e)
-acts-passing b page (restart ∷ acts) e = acts-passing (startOf page .board) page acts e
+acts-passing b page (restart profile ∷ acts) e = acts-passing (startOf profile page .board) page acts e
 
 -- ---- the whole
 
-module _ (page : List ℕ) (acts : List (Act Call)) (e : pageNumber page ≡ 0) where
+module _ (profile : Profile) (page : List ℕ) (acts : List (Act Profile Call)) (e : pageNumber page ≡ 0) where
   abbrev values : Values
   values = valuesIn page
 
@@ -142,7 +152,7 @@ module _ (page : List ℕ) (acts : List (Act Call)) (e : pageNumber page ≡ 0) 
   reckoned = record { settings = settingsOf values; page = values }
 
   abbrev program : Run (State (List ℕ) Kept)
-  program = programFrom (startedOn [] startKept kept) (toldActs acts)
+  program = programFrom profile (startedOn [] startKept kept) (toldActs acts)
 
   stored : StoredAs reckoned kept
   stored =
@@ -153,40 +163,41 @@ module _ (page : List ℕ) (acts : List (Act Call)) (e : pageNumber page ≡ 0) 
   unfolding heldHistory
   few =
       restarts-stay-sound front mostUndecided replyRoom StoredAs reckonMessage keptTests handleMessage startAnew startKept cutting-harmless handles starts-alike
-      reckoned kept (toldActs acts) stored .few
+      profile reckoned kept (toldActs acts) stored .few
 
-  follows : FollowedActs acts (actsOn page acts) (acceptedOn page acts) program
-  follows = from-start kept acts (actsOn page acts) (acceptedOn page acts) (followed acts (startOf page .board) page (start-padded page))
+  follows : FollowedActs acts (actsOn profile page acts) (acceptedOn profile page acts) program
+  follows = from-start profile kept acts (actsOn profile page acts) (acceptedOn profile page acts)
+      (in-profile acts _ _ (stateOf (startOf profile page .board) page) (start-profile profile page) (followed acts (startOf profile page .board) page (start-padded profile page)))
 
-  alike : drainedHistory (toldActs acts) (answersOf (actsOn page acts .feedings)) ≡ drainedHistory (toldActs acts) (reckonedActs values acts .answers)
+  alike : drainedHistory (toldActs acts) (answersOf (actsOn profile page acts .feedings)) ≡ drainedHistory (toldActs acts) (reckonedActs profile values acts .answers)
   unfolding heldHistory
   alike =
-      told-drained noSilence acts (actsOn page acts .feedings) (program .answers) (follows .calls-told .told)
+      told-drained noSilence acts (actsOn profile page acts .feedings) (program .answers) (follows .calls-told .told)
       ∙ restarts-drained-alike front mostUndecided replyRoom StoredAs reckonMessage keptTests handleMessage startAnew startKept cutting-harmless handles starts-alike
-      reckoned kept (toldActs acts) stored
+      profile reckoned kept (toldActs acts) stored
 
-  matched : drainedHistory (toldActs acts) (answersOf (actsOn page acts .feedings)) ≡ true → Matches StoredAs (reckonedActs values acts) program
+  matched : drainedHistory (toldActs acts) (answersOf (actsOn profile page acts .feedings)) ≡ true → Matches StoredAs (reckonedActs profile values acts) program
   unfolding heldHistory
   matched d =
       restarts-match front mostUndecided replyRoom StoredAs reckonMessage keptTests handleMessage startAnew startKept cutting-harmless handles starts-alike
-      reckoned kept (toldActs acts) stored (sym alike ∙ d)
+      profile reckoned kept (toldActs acts) stored (sym alike ∙ d)
 
 pub history-drained-alike : HistoryDrainedAlike
 history-drained-alike = alike
 
 pub history-demand3 : HistoryDemand3
-history-demand3 page acts e d =
+history-demand3 profile page acts e d =
     let i = sound-is-writing page (page-sound page e) in
-    let m = matched page acts e d in
-    let f = follows page acts e in
+    let m = matched profile page acts e d in
+    let f = follows profile page acts e in
     record {
       values = valuesIn page;
       storable-values = i .storable-values;
       written = i .written;
-      reckoned = followed-reckoned (callsIn acts) (actsOn page acts) (program page acts e) (reckonedActs (valuesIn page) acts) (f .calls-told) m (few page acts e 0) (few page acts e 1);
-      started = start-done (actsOn page acts .page) (acts-passing (startOf page .board) page acts e);
+      reckoned = followed-reckoned (callsIn acts) (actsOn profile page acts) (program profile page acts e) (reckonedActs profile (valuesIn page) acts) (f .calls-told) m (few profile page acts e 0) (few profile page acts e 1);
+      started = λ next. start-done next (actsOn profile page acts .page) (acts-passing (startOf profile page .board) page acts e);
       accepted = f .accepted-told ∙ ap acceptedIn (m .answers);
     }
 
 pub history-feeds-demand3 : HistoryFeedsDemand3
-history-feeds-demand3 page acts e f = history-demand3 page acts e (fedActsDrained (toldActs acts) (answersOf (actsOn page acts .feedings)) f)
+history-feeds-demand3 profile page acts e f = history-demand3 profile page acts e (fedActsDrained Profile (toldActs acts) (answersOf (actsOn profile page acts .feedings)) f)

@@ -3,7 +3,7 @@ use mathlib.Core.List.{List, [], _++_, append-nil}
 use mathlib.Core.Path.{_≡_, refl, ap, _∙_}
 use Prim.Native.Nat.{ℕ, zero, suc, _+_, _-_, _<_}
 use native.Mathlib.Omega.{arith}
-use lib.ListN.{length, take, drop, length-drop}
+use lib.ListN.{length, take, length-drop}
 use lib.Seq.{take-nil, drop-length}
 use Rattle.stream.specs.declared.Sought.{Sought}
 use Rattle.stream.specs.declared.Sought.the-variants.{Starved, Found}
@@ -15,7 +15,9 @@ use Rattle.history.specs.Program.{soughtBy}
 use Rattle.history.proofs.Soughts.{call-sized}
 use Rattle.message.specs.Front.{front, mostUndecided}
 use Rattle.message.proofs.Framed.{cutting-harmless}
+use Rattle.command.specs.declared.rights.Rights.{Rights}
 use Rattle.command.specs.declared.settings.Settings.{Settings}
+use Rattle.board.specs.Profile.{rightsOf}
 use Rattle.board.specs.declared.board.Board.{Board}
 use Rattle.board.specs.Port.{heldBytes, portHolding, portOf, withPort}
 use Rattle.board.specs.Feed.{PortStep, feedNumber, stepOn, stepBy, acceptOn, callOf}
@@ -29,18 +31,18 @@ record Drains (held : List ℕ) (number taken skipped : ℕ) (after : List ℕ) 
   emptied : number ≡ 1 → after ≡ []
   all-skipped : number ≡ 1 → skipped ≡ length held
 
-module _ (port : ℕ) (held : List ℕ) (w : Settings) (room page : List ℕ) where
+module _ (rights : Rights) (held : List ℕ) (w : Settings) (room page : List ℕ) where
   abbrev DrainsBy : PortStep → Type 0
   DrainsBy s = Drains held (s .number) (s .taken) (s .skipped) (s .held)
 
-  step-drains : DrainsBy (stepBy port held w silent room page)
+  step-drains : DrainsBy (stepBy rights held w silent room page)
   unfolding stepBy
   step-drains = go (soughtBy front silent held) refl
     where
       all : length (held ++ []) ≡ length held
       all = ap length (append-nil held)
 
-      go : (q : Sought) → soughtBy front silent held ≡ q → DrainsBy (stepOn port q held w [] room page)
+      go : (q : Sought) → soughtBy front silent held ≡ q → DrainsBy (stepOn rights q held w [] room page)
       go (Starved k) e =
           let skips : k ≡ length (held ++ []) = drain-all cutting-harmless (held ++ []) k e in
           record {
@@ -73,8 +75,8 @@ module _ (port : ℕ) (b : Board) (room page : List ℕ) where
     where
       go : (n : ℕ) → feedNumber port (b .first .held) (b .second .held) (b .settings) room page ≡ n → SilenceDrains port b (acceptOn n port b silent room page)
       go zero e =
-          let s : PortStep = stepBy port held (b .settings) silent room page in
-          let d = step-drains port held (b .settings) room page in
+          let s : PortStep = stepBy (rightsOf (b .readonly) port) held (b .settings) silent room page in
+          let d = step-drains (rightsOf (b .readonly) port) held (b .settings) room page in
           record {
             none-taken = d .none-taken;
             fewer = λ z. rw (with-held port b (s .held) (s .settings)) (d .fewer z);

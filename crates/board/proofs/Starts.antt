@@ -12,11 +12,13 @@ use borrow.Author.Tests.{lt-ltb, le-ltb, eq-eqb, ne-eqb}
 use Rattle.stream.specs.Seek.{resume, skippedBy}
 use Rattle.message.proofs.Windows.{drop-chunk}
 use Rattle.page.specs.Sound.{pageNumber}
+use Rattle.command.specs.declared.rights.Rights.{Rights}
 use Rattle.command.specs.declared.settings.Settings.{Settings}
 use Rattle.command.specs.declared.answer.Answer.{Answer}
 use Rattle.command.specs.Outcome.{receivedOf}
 use Rattle.command.specs.Answer.{settingsFrom, Answering, answering}
 use Rattle.command.specs.Effects.{settingsUsable}
+use Rattle.board.specs.Profile.{Profile, full, rightsOf}
 use Rattle.board.specs.declared.feeding.Stepped.{Stepped}
 use Rattle.board.specs.declared.port.Port.{Port}
 use Rattle.board.specs.Port.{freshPort}
@@ -25,40 +27,49 @@ use Rattle.board.specs.Feed.{unsound, feedNumber}
 
 -- ---- starting
 
-pub settings-refused : (page : List ℕ) (n : ℕ) → (n ≡ 0 → ⊥) → (w : Settings) → w ≡ factorySettings → w ≡ startOn n page .board .settings
+pub settings-refused : (page : List ℕ) (n : ℕ) → (n ≡ 0 → ⊥) → (w : Settings) → w ≡ factorySettings → w ≡ startOn n full page .board .settings
 settings-refused page zero h w e = absurd (h refl)
 settings-refused page (suc n) h w e = e
 
-pub settings-loaded : (page : List ℕ) (n : ℕ) → n ≡ 0 → (w : Settings) → w ≡ settingsFrom page → w ≡ startOn n page .board .settings
+pub settings-loaded : (page : List ℕ) (n : ℕ) → n ≡ 0 → (w : Settings) → w ≡ settingsFrom page → w ≡ startOn n full page .board .settings
 settings-loaded page n z w e = rw z e
 
-module _ (page : List ℕ) (n : ℕ) (ns : n ≡ pageNumber page) (w : Settings) (ws : w ≡ startOn n page .board .settings) where
-  pub start-made : record { number = n; board = freshBoard w } ≡ startOf page
+module _ (profile : Profile) (page : List ℕ) (n : ℕ) (ns : n ≡ pageNumber page) (w : Settings) (ws : w ≡ startOn n full page .board .settings) where
+  pub start-made : record { number = n; board = freshBoard profile w } ≡ startOf profile page
   unfolding startOf
   start-made = rw (ws, ← ns) (go n)
     where
-      go : (n : ℕ) → record { number = n; board = freshBoard (startOn n page .board .settings) } ≡ startOn n page
+      go : (n : ℕ) → record { number = n; board = freshBoard profile (startOn n full page .board .settings) } ≡ startOn n profile page
       go zero = refl
       go (suc n) = refl
 
-  pub start-fresh : (a b : Port) → a ≡ freshPort → b ≡ freshPort → record { number = n; board = record { first = a; second = b; settings = w } } ≡ startOf page
+  pub start-fresh : (a b : Port) → a ≡ freshPort → b ≡ freshPort → record { number = n; board = record { first = a; second = b; settings = w; readonly = profile } } ≡ startOf profile page
   start-fresh a b p q = rw (p, q) start-made
 
   module _ (first second : List ℕ) (fs : length first ≡ 260) (ss : length second ≡ 260) where
     pub place-made : (a b : List ℕ) → a ≡ take 0 first ++ replicate (260 - 0) 0 → b ≡ take 0 second ++ replicate (260 - 0) 0
-        → record { answer = record { settings = w; number = n }; first = a; second = b } ≡ startPlaceOf first second page
+        → record { answer = record { settings = w; number = n; readonly = profile }; first = a; second = b } ≡ startPlaceOf profile first second page
     unfolding startPlaceOf
     place-made a b p q = rw (eq-eqb (length first) 260 fs, eq-eqb (length second) 260 ss, ← start-made, p, q)
 
-module _ (first second page : List ℕ) (w : Settings) (ws : w ≡ factorySettings) where
-  pub place-first : (length first ≡ 260 → ⊥) → record { answer = record { settings = w; number = 17 }; first = first; second = second } ≡ startPlaceOf first second page
+module _ (profile : Profile) (first second page : List ℕ) (w : Settings) (ws : w ≡ factorySettings) where
+  pub place-first : (length first ≡ 260 → ⊥) → record { answer = record { settings = w; number = 17; readonly = profile }; first = first; second = second } ≡ startPlaceOf profile first second page
   unfolding startPlaceOf
   place-first h = rw (ne-eqb (length first) 260 h, ws)
 
   pub place-second : length first ≡ 260 → (length second ≡ 260 → ⊥)
-      → record { answer = record { settings = w; number = 17 }; first = first; second = second } ≡ startPlaceOf first second page
+      → record { answer = record { settings = w; number = 17; readonly = profile }; first = first; second = second } ≡ startPlaceOf profile first second page
   unfolding startPlaceOf
   place-second e h = rw (eq-eqb (length first) 260 e, ne-eqb (length second) 260 h, ws)
+
+-- ---- the rights of a port
+
+pub first-rights : (profile : Profile) (port : ℕ) → port ≡ 0 → record { guarded = true; readonly = false } ≡ rightsOf profile port
+first-rights profile port e = rw e
+
+pub second-rights : (profile : Profile) (port : ℕ) → (port ≡ 0 → ⊥) → record { guarded = false; readonly = profile } ≡ rightsOf profile port
+second-rights profile zero n = absurd (n refl)
+second-rights profile (suc p) n = refl
 
 -- ---- the tests of a feed
 
@@ -140,7 +151,9 @@ module _ (bytes chunk : List ℕ) (held k : ℕ) (good : Bool) (fits : held ≤ 
           let f : held - (held - x) ≡ 0 = omega arith in
           rw (f, ps) (row-chunk (omega arith))
 
-  pub answer-left : (port x past : ℕ) → x ≡ held - k → past ≡ k - held → (w : Settings) (room page : List ℕ) (done : Answering)
-      → done ≡ answering port (receivedOf good (take (held - (held - x)) (drop (held - x) bytes) ++ take (length chunk - past) (drop past chunk))) w room page
-      → done ≡ answering port (receivedOf good (drop k (take held bytes ++ chunk))) w room page
-  answer-left port x past xs ps w room page done h = h ∙ ap (λ (m : List ℕ). answering port (receivedOf good m) w room page) (row-left x past xs ps)
+  pub answer-left : (profile : Profile) (port : ℕ) (rights : Rights) → rights ≡ rightsOf profile port → (x past : ℕ) → x ≡ held - k → past ≡ k - held → (w : Settings) (room page : List ℕ) (done : Answering)
+      → done ≡ answering rights (receivedOf good (take (held - (held - x)) (drop (held - x) bytes) ++ take (length chunk - past) (drop past chunk))) w room page
+      → done ≡ answering (rightsOf profile port) (receivedOf good (drop k (take held bytes ++ chunk))) w room page
+  answer-left profile port rights rs x past xs ps w room page done h =
+      h ∙ ap (λ (m : List ℕ). answering rights (receivedOf good m) w room page) (row-left x past xs ps)
+      ∙ ap (λ (r : Rights). answering r (receivedOf good (drop k (take held bytes ++ chunk))) w room page) rs

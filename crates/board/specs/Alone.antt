@@ -9,6 +9,7 @@ use Rattle.page.specs.Sound.{pageNumber}
 use Rattle.command.specs.Outcome.{receivedOf}
 use Rattle.command.specs.Answer.{replyRoom, Answering, answering}
 use Rattle.board.specs.declared.board.Board.{Board}
+use Rattle.board.specs.Profile.{rightsOf}
 use Rattle.board.specs.Port.{heldBytes, portOf}
 use Rattle.board.specs.Feed.{PortStep, feedOn, feedOf}
 use Rattle.board.specs.AnyBoard.{isSound}
@@ -39,4 +40,4 @@ answeredStep m a =
 abbrev pub FedAlone : Type 0
 FedAlone =
     (port : ℕ) (b : Board) (room page : List ℕ) (kind : ℕ) (payload : List ℕ) → Ready port b room page → (kind ≡ 0xA5 → ⊥) → length payload ≤ 255
-    → feedOf port b (messageOf kind payload) room page ≡ feedOn (answeredStep (messageOf kind payload) (answering port (receivedOf true (messageOf kind payload)) (b .settings) room page)) port b
+    → feedOf port b (messageOf kind payload) room page ≡ feedOn (answeredStep (messageOf kind payload) (answering (rightsOf (b .readonly) port) (receivedOf true (messageOf kind payload)) (b .settings) room page)) port b

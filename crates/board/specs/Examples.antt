@@ -8,6 +8,7 @@ use Rattle.history.specs.Restarts.{call, restart}
 use Rattle.message.specs.Message.{messageOf}
 use Rattle.page.specs.Page.{filled, blankPage}
 use Rattle.command.specs.Several.{times}
+use Rattle.board.specs.Profile.{full}
 use Rattle.board.specs.Samples.{done}
 use Rattle.board.specs.Lines.{Line, plain, marks, numbered, spoiled, ping, sets, does, row, rowWith, numberPage, keptPage, working, linesFor}
 
@@ -43,7 +44,7 @@ examples =
       page = blankPage;
       acts =
           marks 0 (numbered 5 0x01 ping) (messageOf 0x7C (row 0x02 0))
-          ∷ restart
+          ∷ restart full
           ∷ plain 0 (numbered 5 0x01 ping) (messageOf 0x7C (row 0x02 5))
           ∷ plain 1 (numbered 5 0x01 ping) (messageOf 0x7C (row 0x02 5))
           ∷ marks 1 (numbered 6 0x01 ping) (messageOf 0x7C (row 0x02 0))
@@ -60,7 +61,7 @@ examples =
       acts =
           marks 0 (numbered 1 0x02 (sets 0x08 0x05 ++ does 0x03 0x08)) (messageOf 0x7C (row 0x08 0 ++ row 0x08 0))
           ∷ marks 0 (numbered 2 0x02 (sets 0x08 0x01)) (messageOf 0x7C (row 0x08 0))
-          ∷ restart
+          ∷ restart full
           ∷ plain 0 (numbered 1 0x02 (sets 0x08 0x05 ++ does 0x03 0x08)) (messageOf 0x7C (row 0x08 5))
           ∷ plain 0 (numbered 2 0x02 (sets 0x08 0x01)) (messageOf 0x7C (row 0x08 5))
           ∷ plain 0 (messageOf 0x02 (sets 0x08 0x01)) (messageOf 0x02 (row 0x08 5))
@@ -88,7 +89,7 @@ examples =
       acts =
           marks 0 (numbered 4294967295 0x01 ping) (messageOf 0x7C (row 0x02 0))
           ∷ plain 0 (numbered 0 0x01 ping) (messageOf 0x7C (row 0x02 5))
-          ∷ restart
+          ∷ restart full
           ∷ plain 1 (numbered 4294967295 0x01 ping) (messageOf 0x7C (row 0x02 5))
           ∷ [];
       accepted = 4294967295 ∷ [];
@@ -116,4 +117,4 @@ examples =
 
 -- The rules give for each line's page and calls what the line says. Proof: Sampled `example-lines`.
 abbrev pub ExampleLines : Type 0
-ExampleLines = linesFor examples ≡ examples
+ExampleLines = linesFor full examples ≡ examples

@@ -1,4 +1,4 @@
--- Document 01, "The scan" and "Numbers of the calls", and request 06: a feed and a silence.
+-- Document 01, "The scan" and "Numbers of the calls", and requests 06 and 12: a feed and a silence.
 use Prim.Native.Nat.{ℕ, zero, suc, _+_, _-_}
 use mathlib.Core.Bool.{Bool, true, false, _||_, not}
 use mathlib.Core.List.{List, _++_}
@@ -13,12 +13,14 @@ use Rattle.history.specs.Program.{soughtBy}
 use Rattle.message.specs.Front.{front}
 use Rattle.message.specs.Whole.{refuse}
 use Rattle.page.specs.Sound.{pageNumber}
+use Rattle.command.specs.declared.rights.Rights.{Rights}
 use Rattle.command.specs.declared.settings.Settings.{Settings}
 use Rattle.command.specs.Outcome.{receivedOf}
 use Rattle.command.specs.Answer.{replyRoom, Answering, answering}
 use Rattle.command.specs.Effects.{settingsUsable}
 use Rattle.board.specs.declared.board.Board.{Board}
 use Rattle.board.specs.declared.board.Fed.{Fed}
+use Rattle.board.specs.Profile.{rightsOf}
 use Rattle.board.specs.Port.{portRoom, heldBytes, portHolding, portOf, withPort}
 
 -- What a call answers, and the reply room and the page afterwards.
@@ -68,9 +70,9 @@ leftOf k n good held chunk = drop (resume k n good) (held ++ take (k + n - lengt
 -- A message is found behind k bytes of those held and then the chunk, n long: bytes are taken up to its end, it is handled (by
 -- its own bytes: `OwnBytes` in crate command), and what is left of the bytes held and taken stays held. Nothing is found: the
 -- whole chunk is taken, and what the seek left undecided stays held.
-abbrev pub stepOn : ℕ → Sought → List ℕ → Settings → List ℕ → List ℕ → List ℕ → PortStep
-stepOn port (Found k n good) held w chunk room page =
-    let a : Answering = answering port (receivedOf good (drop k (held ++ chunk))) w room page in
+abbrev pub stepOn : Rights → Sought → List ℕ → Settings → List ℕ → List ℕ → List ℕ → PortStep
+stepOn rights (Found k n good) held w chunk room page =
+    let a : Answering = answering rights (receivedOf good (drop k (held ++ chunk))) w room page in
     record {
       number = 0;
       taken = k + n - length held;
@@ -81,7 +83,7 @@ stepOn port (Found k n good) held w chunk room page =
       room = a .room;
       page = a .page;
     }
-stepOn port (Starved k) held w chunk room page =
+stepOn rights (Starved k) held w chunk room page =
     record {
       number = 1;
       taken = length chunk;
@@ -93,13 +95,13 @@ stepOn port (Starved k) held w chunk room page =
       page = page;
     }
 
--- An accepted call of a port that holds some bytes: a feed seeks through them and the chunk; a silence goes on over them alone.
-unfoldable pub stepBy : ℕ → List ℕ → Settings → Input → List ℕ → List ℕ → PortStep
-stepBy port held w i room page = stepOn port (soughtBy front i held) held w (chunkOf i) room page
+-- An accepted call of a port that has these rights and holds some bytes: a feed seeks through them and the chunk; a silence goes on over them alone.
+unfoldable pub stepBy : Rights → List ℕ → Settings → Input → List ℕ → List ℕ → PortStep
+stepBy rights held w i room page = stepOn rights (soughtBy front i held) held w (chunkOf i) room page
 
 -- The same as the code makes it: a mark ends the bytes (`quiet`) or none does.
-abbrev pub stepAt : ℕ → Bool → List ℕ → Settings → List ℕ → List ℕ → List ℕ → PortStep
-stepAt port quiet held w chunk room page = stepOn port (seek (upTo (endOf quiet) front) (held ++ chunk)) held w chunk room page
+abbrev pub stepAt : Rights → Bool → List ℕ → Settings → List ℕ → List ℕ → List ℕ → PortStep
+stepAt rights quiet held w chunk room page = stepOn rights (seek (upTo (endOf quiet) front) (held ++ chunk)) held w chunk room page
 
 -- The board after it.
 abbrev pub feedOn : PortStep → ℕ → Board → Feeding
@@ -117,10 +119,11 @@ feedOn s port b =
     }
 
 abbrev pub acceptOn : ℕ → ℕ → Board → Input → List ℕ → List ℕ → Feeding
-acceptOn zero port b i room page = feedOn (stepBy port (heldBytes (portOf port b)) (b .settings) i room page) port b
+acceptOn zero port b i room page = feedOn (stepBy (rightsOf (b .readonly) port) (heldBytes (portOf port b)) (b .settings) i room page) port b
 acceptOn (suc n) port b i room page = refusedFeeding (suc n) b room page
 
--- A call: the tests, then the named port. "Refusals: 16 to 20 as for a feed": the tests do not ask which call it is.
+-- A call: the tests, then the named port, with its rights in the board's profile. "Refusals: 16 to 20 as for a feed": the tests do not
+-- ask which call it is.
 unfoldable pub callOf : ℕ → Board → Input → List ℕ → List ℕ → Feeding
 callOf port b i room page = acceptOn (feedNumber port (b .first .held) (b .second .held) (b .settings) room page) port b i room page
 

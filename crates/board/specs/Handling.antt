@@ -20,15 +20,16 @@ use Rattle.command.specs.Outcome.{Access, State, Received, receivedOf, replyOf}
 use Rattle.command.specs.Handle.{messageOutcome}
 use Rattle.command.specs.Answer.{pageAccess}
 use Rattle.command.specs.Effects.{startSettings, settingsUsable}
+use Rattle.board.specs.Profile.{Profile, rightsOf}
 
--- A message handled, over any keeping of the page's values: its reply, its save mark, and what is left.
-unfoldable pub handleOn : {P : Type 0} → Access P → ℕ → State P → Message → Outcome (State P)
-handleOn access port x m =
+-- A message handled on a port of a board in a profile, over any keeping of the page's values: its reply, its save mark, and what is left.
+unfoldable pub handleOn : {P : Type 0} → Access P → Profile → ℕ → State P → Message → Outcome (State P)
+handleOn access profile port x m =
     let r : Received = receivedOf (m .good) (m .bytes) in
     record {
-      reply = replyOf (r .kind) (messageOutcome access port x r);
-      saved = messageOutcome access port x r .saved;
-      next = messageOutcome access port x r .next;
+      reply = replyOf (r .kind) (messageOutcome access (rightsOf profile port) x r);
+      saved = messageOutcome access (rightsOf profile port) x r .saved;
+      next = messageOutcome access (rightsOf profile port) x r .next;
     }
 
 -- ---- the reckoning
@@ -49,8 +50,8 @@ settingsOf v = startSettings (loadedOf v)
 abbrev pub valuesAccess : Access Values
 valuesAccess = record { loaded = loadedOf; save = withValue; lastNumber = λ v. v .number; putNumber = withNumber }
 
--- A message handled on the values kept.
-abbrev pub reckonMessage : ℕ → Reckoned → Message → Outcome Reckoned
+-- A message handled on the values kept. The reckoning is told the profile.
+abbrev pub reckonMessage : Profile → ℕ → Reckoned → Message → Outcome Reckoned
 reckonMessage = handleOn valuesAccess
 
 -- ---- the board
@@ -60,7 +61,7 @@ abbrev pub Kept : Type 0
 Kept = State (List ℕ)
 
 -- A message handled on them.
-abbrev pub handleMessage : ℕ → Kept → Message → Outcome Kept
+abbrev pub handleMessage : Profile → ℕ → Kept → Message → Outcome Kept
 handleMessage = handleOn pageAccess
 
 -- 17: a working value is not usable; 19: the page is not 64 bytes; 20: it is neither blank nor sound.

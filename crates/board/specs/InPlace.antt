@@ -6,6 +6,7 @@ use Prim.Native.Nat.{ℕ}
 use lib.ListN.{length}
 use Rattle.board.specs.declared.board.Board.{Board}
 use Rattle.board.specs.declared.board.Started.{Started}
+use Rattle.board.specs.Profile.{Profile}
 use Rattle.board.specs.Port.{portRoom, portOf, withPort}
 use Rattle.board.specs.Start.{StartingInPlace, startOf, startPlaceOf}
 use Rattle.history.specs.Calls.{Input}
@@ -33,20 +34,20 @@ putBack port b t =
 abbrev pub InPlaceIsCall : Type 0
 InPlaceIsCall =
     (port : ℕ) (b : Board) (i : Input) (room page : List ℕ) → length (portOf port b .bytes) ≡ portRoom
-    → putBack port b (placeBy port (portOf port b .bytes) (b .first .held) (b .second .held) (b .settings) i room page) ≡ callOf port b i room page
+    → putBack port b (placeBy port (portOf port b .bytes) (b .first .held) (b .second .held) (b .settings) (b .readonly) i room page) ≡ callOf port b i room page
 
 -- ---- a start in place
 
--- What such a caller does: both held counts are 0, and the settings are put in; the arrays were written in place.
+-- What such a caller does: both held counts are 0, and the settings and the profile are put in; the arrays were written in place.
 abbrev pub putIn : StartingInPlace → Started
 putIn t =
     record {
       number = t .answer .number;
-      board = record { first = record { bytes = t .first; held = 0 }; second = record { bytes = t .second; held = 0 }; settings = t .answer .settings };
+      board = record { first = record { bytes = t .first; held = 0 }; second = record { bytes = t .second; held = 0 }; settings = t .answer .settings; readonly = t .answer .readonly };
     }
 
 -- Then a start in place is a start, refused or not, whatever the arrays held.
 abbrev pub InPlaceIsStart : Type 0
 InPlaceIsStart =
-    (first second page : List ℕ) → length first ≡ portRoom → length second ≡ portRoom
-    → putIn (startPlaceOf first second page) ≡ startOf page
+    (profile : Profile) (first second page : List ℕ) → length first ≡ portRoom → length second ≡ portRoom
+    → putIn (startPlaceOf profile first second page) ≡ startOf profile page

@@ -5,13 +5,17 @@ pub mod Feed
 pub mod Handling
 pub mod Histories
 pub mod InPlace
+pub mod Interference
 pub mod Lines
 pub mod Older
 pub mod Place
 pub mod Port
+pub mod Profile
 pub mod Quiet
+pub mod Readonly
 pub mod Restarts
 pub mod Runs
 pub mod Samples
 pub mod Start
 pub mod Theorems
+pub mod Unprofiled

@@ -1,5 +1,5 @@
--- Tables of calls and restarts: a line, its messages, and what the rules give for it. Each line begins with a start on its page, and each
--- room has 166 bytes.
+-- Tables of calls and restarts: a line, its messages, and what the rules give for it. Each line begins with a start on its page, in the
+-- profile of its table, and each room has 166 bytes.
 use mathlib.Core.List.{List, [], _∷_, _++_}
 use Prim.Native.Nat.{ℕ, _-_}
 use lib.ListN.{length, take, replicate}
@@ -9,6 +9,7 @@ use Rattle.history.specs.Restarts.{Act, call, restart}
 use Rattle.message.specs.Message.{messageOf}
 use Rattle.page.specs.Page.{filled}
 use Rattle.command.specs.declared.settings.Settings.{Settings}
+use Rattle.board.specs.Profile.{Profile}
 use Rattle.board.specs.Feed.{Feeding}
 use Rattle.board.specs.Runs.{Call, Calls}
 use Rattle.board.specs.Histories.{actsOn, acceptedOn}
@@ -23,7 +24,7 @@ pub record Sent : Type 0 where
 -- A line: the page at the beginning; calls and restarts; the numbers accepted; the settings and the page at the end.
 pub record Line : Type 0 where
   pub page : List ℕ
-  pub acts : List (Act Sent)
+  pub acts : List (Act Profile Sent)
   pub accepted : List ℕ
   pub settings : Settings
   pub left : List ℕ
@@ -31,10 +32,10 @@ pub record Line : Type 0 where
 -- ---- messages and replies
 
 -- A message that is taken whole and answered: without the mark of a save, or with it.
-abbrev pub plain : ℕ → List ℕ → List ℕ → Act Sent
+abbrev pub plain : ℕ → List ℕ → List ℕ → Act Profile Sent
 plain port m reply = call (record { port = port; input = fed m; out = done (length m) 0 reply })
 
-abbrev pub marks : ℕ → List ℕ → List ℕ → Act Sent
+abbrev pub marks : ℕ → List ℕ → List ℕ → Act Profile Sent
 marks port m reply = call (record { port = port; input = fed m; out = saves (length m) reply })
 
 -- Type 7C: a number, then a command's type and its fields.
@@ -77,28 +78,28 @@ working accelerometer gyroscope = record { baud = 115200; accelerometer = accele
 
 -- ---- what the rules give
 
-abbrev pub actsFor : List (Act Sent) → List (Act Call)
+abbrev pub actsFor : List (Act Profile Sent) → List (Act Profile Call)
 actsFor [] = []
 actsFor (call s ∷ acts) = call (record { port = s .port; input = s .input; room = replicate 166 0 }) ∷ actsFor acts
-actsFor (restart ∷ acts) = restart ∷ actsFor acts
+actsFor (restart profile ∷ acts) = restart profile ∷ actsFor acts
 
-abbrev given : List (Act Sent) → List Feeding → List (Act Sent)
+abbrev given : List (Act Profile Sent) → List Feeding → List (Act Profile Sent)
 given [] fs = []
 given (call s ∷ acts) [] = []
 given (call s ∷ acts) (f ∷ fs) = call (record { port = s .port; input = s .input; out = outOf f }) ∷ given acts fs
-given (restart ∷ acts) fs = restart ∷ given acts fs
+given (restart profile ∷ acts) fs = restart profile ∷ given acts fs
 
-abbrev lineFor : List ℕ → List (Act Sent) → Line
-lineFor page acts =
-    let r : Calls = actsOn page (actsFor acts) in
+abbrev lineFor : Profile → List ℕ → List (Act Profile Sent) → Line
+lineFor profile page acts =
+    let r : Calls = actsOn profile page (actsFor acts) in
     record {
       page = page;
       acts = given acts (r .feedings);
-      accepted = acceptedOn page (actsFor acts);
+      accepted = acceptedOn profile page (actsFor acts);
       settings = r .board .settings;
       left = r .page;
     }
 
-abbrev pub linesFor : List Line → List Line
-linesFor [] = []
-linesFor (l ∷ ls) = lineFor (l .page) (l .acts) ∷ linesFor ls
+abbrev pub linesFor : Profile → List Line → List Line
+linesFor profile [] = []
+linesFor profile (l ∷ ls) = lineFor profile (l .page) (l .acts) ∷ linesFor profile ls

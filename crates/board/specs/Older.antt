@@ -9,6 +9,7 @@ use lib.ListN.{replicate}
 use Rattle.history.specs.Restarts.{restart}
 use Rattle.message.specs.Message.{messageOf}
 use Rattle.page.specs.Page.{filled, blankPage}
+use Rattle.board.specs.Profile.{Profile, full}
 use Rattle.board.specs.Start.{freshBoard}
 use Rattle.board.specs.Feed.{feedOf}
 use Rattle.board.specs.AnyBoard.{isSound}
@@ -32,10 +33,10 @@ olderExamples =
       acts =
           plain 0 (messageOf 0x02 (does 0x02 0x08)) (messageOf 0x02 (rowWith 0x08 0x03))
           ∷ plain 0 (messageOf 0x02 (sets 0x08 0x05 ++ does 0x04 0x08 ++ does 0x02 0x08)) (messageOf 0x02 (row 0x08 0 ++ row 0x08 6 ++ rowWith 0x08 0x05))
-          ∷ restart
+          ∷ restart full
           ∷ plain 1 (messageOf 0x02 (does 0x02 0x08)) (messageOf 0x02 (rowWith 0x08 0x03))
           ∷ marks 0 (messageOf 0x02 (sets 0x08 0x06 ++ sets 0x08 0x01 ++ does 0x03 0x08)) (messageOf 0x02 (row 0x08 6 ++ row 0x08 0 ++ row 0x08 0))
-          ∷ restart
+          ∷ restart full
           ∷ plain 0 (messageOf 0x02 (does 0x04 0x08 ++ does 0x02 0x08)) (messageOf 0x02 (row 0x08 0 ++ rowWith 0x08 0x01))
           ∷ [];
       accepted = [];
@@ -48,7 +49,7 @@ olderExamples =
       acts =
           plain 0 (messageOf 0x02 (does 0x04 0x08)) (messageOf 0x02 (row 0x08 5))
           ∷ marks 0 (numbered 8 0x02 (does 0x04 0x08)) (messageOf 0x7C (row 0x08 6))
-          ∷ restart
+          ∷ restart full
           ∷ plain 1 (messageOf 0x02 (does 0x04 0x08)) (messageOf 0x02 (row 0x08 6))
           ∷ [];
       accepted = 8 ∷ [];
@@ -60,15 +61,15 @@ olderExamples =
 -- ---- what the rules give
 
 -- The number of an empty feed of a board with this gyroscope range.
-abbrev fedWith : ℕ → ℕ
-fedWith range = feedOf 0 (freshBoard (working 0x02 range)) [] (replicate 166 0) blankPage .answer .number
+abbrev fedWith : Profile → ℕ → ℕ
+fedWith profile range = feedOf 0 (freshBoard profile (working 0x02 range)) [] (replicate 166 0) blankPage .answer .number
 
 -- For each line's page and feeds what the line says; and a board that holds 05 is fed, one that holds 06 or 07 refused. Proof: Sampled
 -- `older-lines`.
 pub record OlderLines : Type 0 where
-  pub lines : linesFor olderExamples ≡ olderExamples
-  pub numbers : fedWith 0x05 ∷ fedWith 0x06 ∷ fedWith 0x07 ∷ [] ≡ 1 ∷ 17 ∷ 17 ∷ []
+  pub lines : linesFor full olderExamples ≡ olderExamples
+  pub numbers : (profile : Profile) → fedWith profile 0x05 ∷ fedWith profile 0x06 ∷ fedWith profile 0x07 ∷ [] ≡ 1 ∷ 17 ∷ 17 ∷ []
 
 -- "A board record holding them is unsound (17)": whatever the range, a board is sound where it is 01 to 05. Proof: Feedings `range-sound`.
 abbrev pub RangeSound : Type 0
-RangeSound = (range : ℕ) → isSound (freshBoard (working 0x02 range)) ≡ leb 0x01 range && leb range 0x05
+RangeSound = (profile : Profile) (range : ℕ) → isSound (freshBoard profile (working 0x02 range)) ≡ leb 0x01 range && leb range 0x05

@@ -32,7 +32,7 @@ abbrev pub portOf : ℕ → Board → Port
 portOf zero b = b .first
 portOf (suc p) b = b .second
 
--- The board with one port and the settings anew; the other port's record is as it came.
+-- The board with one port and the settings anew; the other port's record and the profile are as they came.
 abbrev pub withPort : ℕ → Board → Port → Settings → Board
-withPort zero b port w = record { first = port; second = b .second; settings = w }
-withPort (suc p) b port w = record { first = b .first; second = port; settings = w }
+withPort zero b port w = record { first = port; second = b .second; settings = w; readonly = b .readonly }
+withPort (suc p) b port w = record { first = b .first; second = port; settings = w; readonly = b .readonly }

@@ -8,6 +8,7 @@ use Rattle.history.specs.Calls.{fed, silent}
 use Rattle.history.specs.Restarts.{Act, call, restart, drainedHistory}
 use Rattle.message.specs.Message.{messageOf}
 use Rattle.page.specs.Page.{filled, blankPage}
+use Rattle.board.specs.Profile.{Profile, full}
 use Rattle.board.specs.Samples.{Out, ends}
 use Rattle.board.specs.Histories.{actsOn}
 use Rattle.board.specs.Restarts.{toldActs}
@@ -20,14 +21,14 @@ falseHeader = 0xA5 ∷ 0xA5 ∷ 0x01 ∷ 0xFF ∷ []
 
 -- A feed that is used up, and holds all of it. A silence that finds a message behind so many bytes, without the mark of a save or with
 -- it. One that finds nothing and skips so many.
-abbrev waits : ℕ → List ℕ → Act Sent
+abbrev waits : ℕ → List ℕ → Act Profile Sent
 waits port m = call (record { port = port; input = fed m; out = ends (length m) 0 })
 
-abbrev finds : ℕ → ℕ → Bool → List ℕ → Act Sent
+abbrev finds : ℕ → ℕ → Bool → List ℕ → Act Profile Sent
 finds port skipped saved reply =
     call (record { port = port; input = silent; out = record { number = 0; taken = 0; skipped = skipped; saved = saved; reply = reply } })
 
-abbrev drains : ℕ → ℕ → Act Sent
+abbrev drains : ℕ → ℕ → Act Profile Sent
 drains port skipped = call (record { port = port; input = silent; out = ends 0 skipped })
 
 abbrev refusedPort : Out
@@ -93,7 +94,7 @@ quietExamples =
       acts =
           waits 0 (falseHeader ++ (numbered 5 0x01 ping ++ falseHeader))
           ∷ finds 0 4 true (messageOf 0x7C (row 0x02 0))
-          ∷ restart
+          ∷ restart full
           ∷ plain 0 (numbered 5 0x01 ping) (messageOf 0x7C (row 0x02 5))
           ∷ waits 1 (falseHeader ++ numbered 5 0x01 ping)
           ∷ finds 1 4 false (messageOf 0x7C (row 0x02 5))
@@ -141,9 +142,9 @@ quietExamples =
 -- Is each silence of a line drained before a feed of its port?
 abbrev drainedIn : List Line → List Bool
 drainedIn [] = []
-drainedIn (l ∷ ls) = drainedHistory (toldActs (actsFor (l .acts))) (answersOf (actsOn (l .page) (actsFor (l .acts)) .feedings)) ∷ drainedIn ls
+drainedIn (l ∷ ls) = drainedHistory (toldActs (actsFor (l .acts))) (answersOf (actsOn full (l .page) (actsFor (l .acts)) .feedings)) ∷ drainedIn ls
 
 -- For each line's page and calls what the line says; and all lines but the last are drained. Proof: Sampled `quiet-lines`.
 pub record QuietLines : Type 0 where
-  pub lines : linesFor quietExamples ≡ quietExamples
+  pub lines : linesFor full quietExamples ≡ quietExamples
   pub drained : drainedIn quietExamples ≡ true ∷ true ∷ true ∷ true ∷ true ∷ true ∷ false ∷ []

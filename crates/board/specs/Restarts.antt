@@ -18,29 +18,30 @@ use Rattle.page.specs.Sound.{pageNumber}
 use Rattle.command.specs.Numbered.{carried}
 use Rattle.command.specs.Outcome.{receivedOf}
 use Rattle.command.specs.Answer.{replyRoom}
+use Rattle.board.specs.Profile.{Profile}
 use Rattle.board.specs.Start.{startOf}
 use Rattle.board.specs.Handling.{Reckoned, settingsOf, reckonMessage}
 use Rattle.board.specs.Runs.{Call, callFrom}
 use Rattle.board.specs.Theorems.{answersOf, AsReckoned}
 use Rattle.board.specs.Histories.{actsOn, acceptedWith, acceptedOn}
 
-abbrev pub callsIn : List (Act Call) → List Call
+abbrev pub callsIn : List (Act Profile Call) → List Call
 callsIn [] = []
 callsIn (call c ∷ acts) = c ∷ callsIn acts
-callsIn (restart ∷ acts) = callsIn acts
+callsIn (restart profile ∷ acts) = callsIn acts
 
--- What the reckoning is given: each call's port, chunk and length of room, the silences and the restarts.
-abbrev pub toldActs : List (Act Call) → List (Act CallOf)
+-- What the reckoning is given: each call's port, chunk and length of room, the silences, and the restarts with their profiles.
+abbrev pub toldActs : List (Act Profile Call) → List (Act Profile CallOf)
 toldActs [] = []
 toldActs (call c ∷ acts) = call (callFrom c) ∷ toldActs acts
-toldActs (restart ∷ acts) = restart ∷ toldActs acts
+toldActs (restart profile ∷ acts) = restart profile ∷ toldActs acts
 
 -- A start sets the working values anew, from the page's values that are kept.
 abbrev pub startAnew : Reckoned → Reckoned
 startAnew x = record { settings = settingsOf (x .page); page = x .page }
 
-abbrev pub reckonedActs : Values → List (Act Call) → Run (State Ledger Reckoned)
-reckonedActs v acts = reckonedHistory front reckonMessage replyRoom startAnew (record { settings = settingsOf v; page = v }) (toldActs acts)
+abbrev pub reckonedActs : Profile → Values → List (Act Profile Call) → Run (State Ledger Reckoned)
+reckonedActs profile v acts = reckonedHistory front reckonMessage replyRoom startAnew profile (record { settings = settingsOf v; page = v }) (toldActs acts)
 
 -- The numbers accepted by the reckoning's answers, which name the message that each call reported.
 abbrev pub carriedBy : List Message → Option ℕ
@@ -54,28 +55,28 @@ acceptedIn (a ∷ answers) = acceptedWith (a .saved) (carriedBy (a .reports)) ++
 -- The page is the writing of storable values; from a start on it all goes as reckoned from those values; and the numbers accepted are
 -- those of the messages that the reckoning reports with the mark of a save. A start at the end is done; and so is every restart, since
 -- each stands at the end of the history before it (`OneActMore`).
-pub record HistoryFromPage (page : List ℕ) (acts : List (Act Call)) : Type 0 where
+pub record HistoryFromPage (profile : Profile) (page : List ℕ) (acts : List (Act Profile Call)) : Type 0 where
   pub values : Values
   pub storable-values : allStorable values ≡ true
   pub written : page ≡ writing values
-  pub reckoned : AsReckoned (callsIn acts) (actsOn page acts) (reckonedActs values acts)
-  pub started : startOf (actsOn page acts .page) .number ≡ 0
-  pub accepted : acceptedOn page acts ≡ acceptedIn (reckonedActs values acts .answers)
+  pub reckoned : AsReckoned (callsIn acts) (actsOn profile page acts) (reckonedActs profile values acts)
+  pub started : (next : Profile) → startOf next (actsOn profile page acts .page) .number ≡ 0
+  pub accepted : acceptedOn profile page acts ≡ acceptedIn (reckonedActs profile values acts .answers)
 
 -- Demand 3 over histories: from a start on every blank or sound page, for every list of calls and restarts in which each accepted silence
 -- is drained to answer 1 before a feed of that port is accepted again, by the numbers that the calls answered. Proof: Restarts
 -- `history-demand3`.
 abbrev pub HistoryDemand3 : Type 0
 HistoryDemand3 =
-    (page : List ℕ) (acts : List (Act Call)) → pageNumber page ≡ 0 → drainedHistory (toldActs acts) (answersOf (actsOn page acts .feedings)) ≡ true
-    → HistoryFromPage page acts
+    (profile : Profile) (page : List ℕ) (acts : List (Act Profile Call)) → pageNumber page ≡ 0 → drainedHistory (toldActs acts) (answersOf (actsOn profile page acts .feedings)) ≡ true
+    → HistoryFromPage profile page acts
 
 -- As it was before there were silences: every history of feeds and restarts. Proof: Restarts `history-feeds-demand3`.
 abbrev pub HistoryFeedsDemand3 : Type 0
-HistoryFeedsDemand3 = (page : List ℕ) (acts : List (Act Call)) → pageNumber page ≡ 0 → onlyFedActs (toldActs acts) ≡ true → HistoryFromPage page acts
+HistoryFeedsDemand3 = (profile : Profile) (page : List ℕ) (acts : List (Act Profile Call)) → pageNumber page ≡ 0 → onlyFedActs (toldActs acts) ≡ true → HistoryFromPage profile page acts
 
 -- Whether a history is drained, the reckoning's answers tell as the calls' own do. Proof: Restarts `history-drained-alike`.
 abbrev pub HistoryDrainedAlike : Type 0
 HistoryDrainedAlike =
-    (page : List ℕ) (acts : List (Act Call)) → pageNumber page ≡ 0
-    → drainedHistory (toldActs acts) (answersOf (actsOn page acts .feedings)) ≡ drainedHistory (toldActs acts) (reckonedActs (valuesIn page) acts .answers)
+    (profile : Profile) (page : List ℕ) (acts : List (Act Profile Call)) → pageNumber page ≡ 0
+    → drainedHistory (toldActs acts) (answersOf (actsOn profile page acts .feedings)) ≡ drainedHistory (toldActs acts) (reckonedActs profile (valuesIn page) acts .answers)

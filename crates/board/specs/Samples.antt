@@ -3,14 +3,15 @@
 use mathlib.Core.Bool.{Bool, true, false}
 use mathlib.Core.List.{List, [], _∷_, _++_}
 use mathlib.Core.Path.{_≡_}
-use Prim.Native.Nat.{ℕ, zero, suc, _+_}
-use lib.ListN.{length, take, replicate}
+use Prim.Native.Nat.{ℕ}
+use lib.ListN.{length, replicate}
 use Rattle.history.specs.Calls.{fed}
-use Rattle.message.specs.Message.{lengthOf, messageOf}
+use Rattle.message.specs.Message.{messageOf}
 use Rattle.page.specs.Page.{noValues, blankPage}
+use Rattle.board.specs.Profile.{Profile}
 use Rattle.board.specs.Port.{heldBytes}
 use Rattle.board.specs.Feed.{Feeding}
-use Rattle.board.specs.Runs.{Call, Calls, callsOn}
+use Rattle.board.specs.Runs.{Call, Calls, callsOn, replyIn}
 
 -- What one feed gives.
 pub record Out : Type 0 where
@@ -109,11 +110,6 @@ abbrev callsWith : List (List ℕ) → List Call
 callsWith [] = []
 callsWith (c ∷ cs) = record { port = 0; input = fed c; room = replicate 166 0 } ∷ callsWith cs
 
--- The reply stands at the room's front.
-abbrev replyIn : ℕ → List ℕ → List ℕ
-replyIn zero room = take (lengthOf room + 6) room
-replyIn (suc n) room = []
-
 abbrev pub outOf : Feeding → Out
 outOf f =
     record {
@@ -128,15 +124,15 @@ abbrev pub outsOf : List Feeding → List Out
 outsOf [] = []
 outsOf (f ∷ fs) = outOf f ∷ outsOf fs
 
-abbrev lineFor : List (List ℕ) → Line
-lineFor chunks =
-    let r : Calls = callsOn noValues (callsWith chunks) in
+abbrev lineFor : Profile → List (List ℕ) → Line
+lineFor profile chunks =
+    let r : Calls = callsOn profile noValues (callsWith chunks) in
     record { chunks = chunks; outs = outsOf (r .feedings); held = heldBytes (r .board .first); page = r .page }
 
-abbrev pub linesFor : List Line → List Line
-linesFor [] = []
-linesFor (l ∷ ls) = lineFor (l .chunks) ∷ linesFor ls
+abbrev pub linesFor : Profile → List Line → List Line
+linesFor profile [] = []
+linesFor profile (l ∷ ls) = lineFor profile (l .chunks) ∷ linesFor profile ls
 
--- The rules give for each line's chunks what the line says.
+-- The rules give for each line's chunks what the line says, in either profile.
 abbrev pub SampleLines : Type 0
-SampleLines = linesFor samples ≡ samples
+SampleLines = (profile : Profile) → linesFor profile samples ≡ samples

@@ -10,6 +10,15 @@ pub struct Board {
     pub second: Port,
     // the working values
     pub settings: Settings,
+    // the profile that it was started in: whether port 1 is read-only
+    pub readonly: bool,
+}
+
+impl Board {
+    // the profiles
+    pub const FULL: bool = false;
+
+    pub const READONLY: bool = true;
 }
 
 // What starting answers.

@@ -4,6 +4,7 @@ ghost use mathlib.Core.Path.{_≡_};
 ghost use lib.ListN.{length};
 ghost use Prim.Native.Nat.{_≤_};
 ghost use Rattle.history.specs.Calls.{chunkOf};
+ghost use Rattle.board.specs.Profile.{rightsOf};
 ghost use Rattle.board.specs.Port.{heldBytes};
 ghost use Rattle.board.specs.Feed.{inputOf, stepAt, feedOn, callOf, feedOf, silenceOf};
 ghost use Rattle.board.specs.Place.{namedHeld, placeBy, placeOf, silencePlaceOf};
@@ -32,12 +33,13 @@ pub fn call_in_place(
     first: usize,
     second: usize,
     w: Settings,
+    readonly: bool,
     quiet: bool,
     chunk: &[u8],
     room: &mut [u8],
     page: &mut [u8],
 ) -> Stepped
-    ensures { λ r. ⌜ record { step = r; bytes = now (bytes .exit); room = now (room .exit); page = now (page .exit) } ≡ placeBy port (now (bytes .entry)) first second w (inputOf quiet (now (chunk .entry))) (now (room .entry)) (now (page .entry)) ⌝ }
+    ensures { λ r. ⌜ record { step = r; bytes = now (bytes .exit); room = now (room .exit); page = now (page .exit) } ≡ placeBy port (now (bytes .entry)) first second w readonly (inputOf quiet (now (chunk .entry))) (now (room .entry)) (now (page .entry)) ⌝ }
 {
     let number = place_number(port, bytes, first, second, w, room, page);
     let held = held_of(port, first, second);
@@ -52,7 +54,17 @@ pub fn call_in_place(
         };
     }
     let n = brought(quiet, chunk);
-    step(port, bytes, held, &chunk[0..n], quiet, w, room, page)
+    step(
+        port,
+        readonly,
+        bytes,
+        held,
+        &chunk[0..n],
+        quiet,
+        w,
+        room,
+        page,
+    )
 }
 
 // A feed for such a caller.
@@ -62,13 +74,25 @@ pub fn feed_in_place(
     first: usize,
     second: usize,
     w: Settings,
+    readonly: bool,
     chunk: &[u8],
     room: &mut [u8],
     page: &mut [u8],
 ) -> Stepped
-    ensures { λ r. ⌜ record { step = r; bytes = now (bytes .exit); room = now (room .exit); page = now (page .exit) } ≡ placeOf port (now (bytes .entry)) first second w (now (chunk .entry)) (now (room .entry)) (now (page .entry)) ⌝ }
+    ensures { λ r. ⌜ record { step = r; bytes = now (bytes .exit); room = now (room .exit); page = now (page .exit) } ≡ placeOf port (now (bytes .entry)) first second w readonly (now (chunk .entry)) (now (room .entry)) (now (page .entry)) ⌝ }
 {
-    call_in_place(port, bytes, first, second, w, false, chunk, room, page)
+    call_in_place(
+        port,
+        bytes,
+        first,
+        second,
+        w,
+        readonly,
+        false,
+        chunk,
+        room,
+        page,
+    )
 }
 
 // A silence for such a caller.
@@ -78,13 +102,25 @@ pub fn silence_in_place(
     first: usize,
     second: usize,
     w: Settings,
+    readonly: bool,
     room: &mut [u8],
     page: &mut [u8],
 ) -> Stepped
-    ensures { λ r. ⌜ record { step = r; bytes = now (bytes .exit); room = now (room .exit); page = now (page .exit) } ≡ silencePlaceOf port (now (bytes .entry)) first second w (now (room .entry)) (now (page .entry)) ⌝ }
+    ensures { λ r. ⌜ record { step = r; bytes = now (bytes .exit); room = now (room .exit); page = now (page .exit) } ≡ silencePlaceOf port (now (bytes .entry)) first second w readonly (now (room .entry)) (now (page .entry)) ⌝ }
 {
     let none = [0u8; 1];
-    call_in_place(port, bytes, first, second, w, true, &none, room, page)
+    call_in_place(
+        port,
+        bytes,
+        first,
+        second,
+        w,
+        readonly,
+        true,
+        &none,
+        room,
+        page,
+    )
 }
 
 fn held_of(port: u8, first: usize, second: usize) -> usize
@@ -103,12 +139,14 @@ fn call_first(
     page: &mut [u8],
 ) -> Fed
     requires { ⌜ board .first .held ≤ 260 ⌝ }
-    ensures { λ r. ⌜ record { answer = r; room = now (room .exit); page = now (page .exit) } ≡ feedOn (stepAt port quiet (heldBytes (board .first)) (board .settings) (now (chunk .entry)) (now (room .entry)) (now (page .entry))) 0 board ⌝ }
+    ensures { λ r. ⌜ record { answer = r; room = now (room .exit); page = now (page .exit) } ≡ feedOn (stepAt (rightsOf (board .readonly) port) quiet (heldBytes (board .first)) (board .settings) (now (chunk .entry)) (now (room .entry)) (now (page .entry))) 0 board ⌝ }
 {
     let held = board.first.held;
     let w = board.settings;
+    let readonly = board.readonly;
     let s = step_port(
         port,
+        readonly,
         &mut board.first.bytes,
         held,
         chunk,
@@ -140,12 +178,14 @@ fn call_second(
     page: &mut [u8],
 ) -> Fed
     requires { ⌜ board .second .held ≤ 260 ⌝ }
-    ensures { λ r. ⌜ record { answer = r; room = now (room .exit); page = now (page .exit) } ≡ feedOn (stepAt port quiet (heldBytes (board .second)) (board .settings) (now (chunk .entry)) (now (room .entry)) (now (page .entry))) 1 board ⌝ }
+    ensures { λ r. ⌜ record { answer = r; room = now (room .exit); page = now (page .exit) } ≡ feedOn (stepAt (rightsOf (board .readonly) port) quiet (heldBytes (board .second)) (board .settings) (now (chunk .entry)) (now (room .entry)) (now (page .entry))) 1 board ⌝ }
 {
     let held = board.second.held;
     let w = board.settings;
+    let readonly = board.readonly;
     let s = step_port(
         port,
+        readonly,
         &mut board.second.bytes,
         held,
         chunk,

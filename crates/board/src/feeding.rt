@@ -9,11 +9,13 @@ ghost use Rattle.stream.specs.declared.Sought.the-variants.{Found};
 ghost use Rattle.stream.specs.Seek.{resume, skippedBy};
 ghost use Rattle.command.specs.Outcome.{receivedOf};
 ghost use Rattle.command.specs.Answer.{answering};
+ghost use Rattle.board.specs.Profile.{rightsOf};
 ghost use Rattle.board.specs.Port.{padded};
 ghost use Rattle.board.specs.Feed.{feedNumber, leftOf, stepOn, stepAt};
 ghost use Rattle.board.specs.Place.{inPlace, placeNumber};
 use crate::keep::keep_part;
 use crate::port::Port;
+use crate::profile::rights_of;
 use command::Answer;
 use command::Settings;
 use command::answer_over;
@@ -61,6 +63,7 @@ fn excess(x: usize, y: usize) -> usize
 // both, whether it is held, straddles or is all in the chunk.
 fn answer_at(
     port: u8,
+    readonly: bool,
     bytes: &[u8],
     held: usize,
     chunk: &[u8],
@@ -71,12 +74,12 @@ fn answer_at(
     page: &mut [u8],
 ) -> Answer
     requires { ⌜ (held ≤ length (now bytes)) × (k ≤ held + length (now chunk)) ⌝ }
-    ensures { λ r. ⌜ record { answer = r; room = now (room .exit); page = now (page .exit) } ≡ answering port (receivedOf good (drop k (take held (now (bytes .entry)) ++ now (chunk .entry)))) w (now (room .entry)) (now (page .entry)) ⌝ }
+    ensures { λ r. ⌜ record { answer = r; room = now (room .exit); page = now (page .exit) } ≡ answering (rightsOf readonly port) (receivedOf good (drop k (take held (now (bytes .entry)) ++ now (chunk .entry)))) w (now (room .entry)) (now (page .entry)) ⌝ }
 {
     let from = held - excess(held, k);
     let past = excess(k, held);
     answer_over(
-        port,
+        rights_of(readonly, port),
         &bytes[from..held],
         &chunk[past..],
         good,
@@ -168,6 +171,7 @@ fn reported(held: usize, k: usize, n: usize, good: bool, a: Answer, left: usize)
 // A step where a message is found: it is handled, and bytes are taken up to its end.
 fn step_found(
     port: u8,
+    readonly: bool,
     bytes: &mut [u8],
     held: usize,
     chunk: &[u8],
@@ -180,9 +184,9 @@ fn step_found(
 ) -> Stepped
     requires { ⌜ (held ≤ 260) × (length (now bytes) ≡ 260) ⌝ }
     requires { ⌜ (1 ≤ n) × (n ≤ 261) × (k + n ≤ held + length (now chunk)) ⌝ }
-    ensures { λ r. ⌜ record { step = r; bytes = now (bytes .exit); room = now (room .exit); page = now (page .exit) } ≡ inPlace (stepOn port (Found k n good) (take held (now (bytes .entry))) w (now (chunk .entry)) (now (room .entry)) (now (page .entry))) ⌝ }
+    ensures { λ r. ⌜ record { step = r; bytes = now (bytes .exit); room = now (room .exit); page = now (page .exit) } ≡ inPlace (stepOn (rightsOf readonly port) (Found k n good) (take held (now (bytes .entry))) w (now (chunk .entry)) (now (room .entry)) (now (page .entry))) ⌝ }
 {
-    let a = answer_at(port, bytes, held, chunk, k, good, w, room, page);
+    let a = answer_at(port, readonly, bytes, held, chunk, k, good, w, room, page);
     let left = keep_after(bytes, held, chunk, k, n, good);
     reported(held, k, n, good, a, left)
 }
@@ -190,6 +194,7 @@ fn step_found(
 // One accepted call of a port, in its array.
 pub(crate) fn step(
     port: u8,
+    readonly: bool,
     bytes: &mut [u8],
     held: usize,
     chunk: &[u8],
@@ -199,12 +204,13 @@ pub(crate) fn step(
     page: &mut [u8],
 ) -> Stepped
     requires { ⌜ (held ≤ 260) × (length (now bytes) ≡ 260) ⌝ }
-    ensures { λ r. ⌜ record { step = r; bytes = now (bytes .exit); room = now (room .exit); page = now (page .exit) } ≡ inPlace (stepAt port quiet (take held (now (bytes .entry))) w (now (chunk .entry)) (now (room .entry)) (now (page .entry))) ⌝ }
+    ensures { λ r. ⌜ record { step = r; bytes = now (bytes .exit); room = now (room .exit); page = now (page .exit) } ≡ inPlace (stepAt (rightsOf readonly port) quiet (take held (now (bytes .entry))) w (now (chunk .entry)) (now (room .entry)) (now (page .entry))) ⌝ }
 {
     match seek_held(bytes, held, chunk, quiet) {
         Sought::Starved(k) => step_starved(bytes, held, chunk, k, w),
         Sought::Found(k, n, good) => step_found(
             port,
+            readonly,
             bytes,
             held,
             chunk,
@@ -221,6 +227,7 @@ pub(crate) fn step(
 // A step in the array of a board's port, which is lent as a slice.
 pub(crate) fn step_port(
     port: u8,
+    readonly: bool,
     bytes: &mut [u8; 260],
     held: usize,
     chunk: &[u8],
@@ -230,9 +237,9 @@ pub(crate) fn step_port(
     page: &mut [u8],
 ) -> Stepped
     requires { ⌜ (held ≤ 260) × (length (now bytes) ≡ 260) ⌝ }
-    ensures { λ r. ⌜ record { step = r; bytes = now (bytes .exit); room = now (room .exit); page = now (page .exit) } ≡ inPlace (stepAt port quiet (take held (now (bytes .entry))) w (now (chunk .entry)) (now (room .entry)) (now (page .entry))) ⌝ }
+    ensures { λ r. ⌜ record { step = r; bytes = now (bytes .exit); room = now (room .exit); page = now (page .exit) } ≡ inPlace (stepAt (rightsOf readonly port) quiet (take held (now (bytes .entry))) w (now (chunk .entry)) (now (room .entry)) (now (page .entry))) ⌝ }
 {
-    step(port, bytes, held, chunk, quiet, w, room, page)
+    step(port, readonly, bytes, held, chunk, quiet, w, room, page)
 }
 
 // The number of the first test that refuses a call in place.

@@ -1,10 +1,11 @@
-// The board: two ports that hold unread bytes, the working settings, starting, feeding and silences. The definitions that the
+// The board: two ports that hold unread bytes, the working settings, the profile, starting, feeding and silences. The definitions that the
 // contracts cite stand in specs/.
 mod board;
 mod calls;
 mod feeding;
 mod keep;
 mod port;
+mod profile;
 mod starting;
 
 pub use board::Board;

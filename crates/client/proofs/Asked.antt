@@ -22,6 +22,7 @@ use Rattle.command.specs.declared.settings.Settings.{Settings}
 use Rattle.command.specs.declared.command.Command.{Command}
 use Rattle.command.specs.declared.command.Subject.{Subject}
 use Rattle.command.specs.declared.command.Subject.the-variants.{Ping, Setting as About, Unknown}
+use Rattle.command.specs.Rights.{allRights}
 use Rattle.command.specs.Command.{commandOf, valueFor, subjectOf}
 use Rattle.command.specs.Errors.{isKind, fieldError, fieldWrong, isFunction}
 use Rattle.command.specs.Effects.{loading, Effect, leaving, functionEffect, effectOn, effectOf}
@@ -36,8 +37,8 @@ use Rattle.client.proofs.Commands.{about-back, subject-ping, subject-ab
 
 -- A command's error where no number is needed, and its effect.
 pub record Does (c : Command) (n : (Setting → Stored) → ℕ) (e : (Setting → Stored) → Settings → Effect) : Type 0 where
-  pub error : (loaded : Setting → Stored) → fieldError false loaded c ≡ n loaded
-  pub effect : (loaded : Setting → Stored) (w : Settings) → effectOf false loaded w c ≡ e loaded w
+  pub error : (loaded : Setting → Stored) → fieldError 0 loaded c ≡ n loaded
+  pub effect : (loaded : Setting → Stored) (w : Settings) → effectOf 0 loaded w c ≡ e loaded w
 
 -- Function 1 with the bytes of a usable value.
 baud-used : (a b c d v : ℕ) → word a b c d ≡ v → usable Baud v ≡ true → storable Baud v ≡ true
@@ -207,7 +208,7 @@ asked-right kind a h = go (askedSubject kind a) refl h
     go Unknown e h = differ (sym h)
 
 module _ {P : Type 0} (access : Access P) (kind : ℕ) where
-  pub field-obeyed : (x : State P) (a : Asked) → askedRight kind a ≡ true → fieldOutcome access false x (commandOf kind (fieldAs kind a)) ≡ askedOutcome access kind x a
+  pub field-obeyed : (x : State P) (a : Asked) → askedRight kind a ≡ true → fieldOutcome access allRights x (commandOf kind (fieldAs kind a)) ≡ askedOutcome access kind x a
   unfolding fieldOutcome effectOf
   field-obeyed x a h =
       let r = asked-right kind a h in

@@ -19,8 +19,10 @@ use Rattle.message.specs.Theorems.{RoundTrip}
 use Rattle.message.specs.Write.{Writing, putAt}
 use Rattle.message.proofs.FieldRows.{fields-back}
 use Rattle.message.proofs.RoundTrips.{written-is-read}
+use Rattle.command.specs.declared.rights.Rights.{Rights}
 use Rattle.command.specs.declared.command.Subject.{Subject}
 use Rattle.command.specs.declared.command.Subject.the-variants.{Ping, Setting as About, Unknown}
+use Rattle.command.specs.Rights.{allRights}
 use Rattle.command.specs.Command.{commandsOf, subjectOf}
 use Rattle.command.specs.Errors.{mostFields, isKind, commandError}
 use Rattle.command.specs.Numbers.{numberedKind, numberOf, isFresh, numberError}
@@ -80,7 +82,7 @@ module _ (kind : ℕ) where
 
 module _ {P : Type 0} (access : Access P) (kind : ℕ) where
   fields-obeyed : (x : State P) (asks : List Asked) → allRight kind asks ≡ true
-      → fieldsOutcome access false x (commandsOf kind (fieldsAs kind asks)) ≡ askedOutcomes access kind x asks
+      → fieldsOutcome access allRights x (commandsOf kind (fieldsAs kind asks)) ≡ askedOutcomes access kind x asks
   unfolding fieldsOutcome
   fields-obeyed x [] h = refl
   fields-obeyed x (a ∷ asks) h =
@@ -88,7 +90,7 @@ module _ {P : Type 0} (access : Access P) (kind : ℕ) where
       rw (field-obeyed access kind x a (b .0)) (ap (thenOutcome (askedOutcome access kind x a)) (fields-obeyed (askedOutcome access kind x a .next) asks (b .1)))
 
   command-obeyed : (x : State P) (asks : List Asked) → allRight kind asks ≡ true → 1 ≤ length asks → length asks ≤ mostFields
-      → commandOutcome access false x kind (askedFields kind asks) ≡ askedOutcomes access kind x asks
+      → commandOutcome access allRights x kind (askedFields kind asks) ≡ askedOutcomes access kind x asks
   unfolding commandOutcome
   command-obeyed x asks h l m = rw (fields-pass kind asks h l m, fields-read kind asks h) (fields-obeyed x asks h)
 
@@ -108,7 +110,7 @@ written-is-obeyed kind asks h l m =
     record {
       whole = written-is-read kind (askedFields kind asks) n .whole;
       outcome = λ P access x.
-          rw (received-back kind (askedFields kind asks) n) (is-command access 1 x kind (askedFields kind asks) k ∙ command-obeyed access kind x asks h l m);
+          rw (received-back kind (askedFields kind asks) n) (is-command access allRights x kind (askedFields kind asks) k ∙ command-obeyed access kind x asks h l m);
     }
 
 -- ---- behind a number
@@ -120,16 +122,17 @@ module _ (number kind : ℕ) (fields : List ℕ) where
   number-back : number < 4294967296 → numberOf behind ≡ number
   number-back h = rw (word-back number h) (omega arith)
 
-  fresh-passes : number < 4294967296 → (last : Stored) → isFresh last number ≡ true → numberError last behind ≡ 0
+  fresh-passes : number < 4294967296 → (rights : Rights) → rights .readonly ≡ false → (last : Stored) → isFresh last number ≡ true
+      → numberError rights last behind ≡ 0
   unfolding numberError
-  fresh-passes h last f = rw (le-ltb (length behind) 5 (omega arith), number-back h, f)
+  fresh-passes h rights o last f = rw (o, le-ltb (length behind) 5 (omega arith), number-back h, f)
 
-spends : {P : Type 0} (access : Access P) (port : ℕ) (x : State P) (number kind : ℕ) (fields : List ℕ) → number < 4294967296
-    → isFresh (access .lastNumber (x .page)) number ≡ true
-    → messageOutcome access port x (record { good = true; kind = numberedKind; payload = numberedPayload number kind fields })
-    ≡ marked (commandOutcome access false (spent access x number) kind fields)
+spends : {P : Type 0} (access : Access P) (rights : Rights) (x : State P) (number kind : ℕ) (fields : List ℕ) → number < 4294967296
+    → rights .readonly ≡ false → isFresh (access .lastNumber (x .page)) number ≡ true
+    → messageOutcome access rights x (record { good = true; kind = numberedKind; payload = numberedPayload number kind fields })
+    ≡ marked (commandOutcome access allRights (spent access x number) kind fields)
 unfolding messageOutcome numberedOutcome
-spends access port x number kind fields h f = rw (fresh-passes number kind fields h (access .lastNumber (x .page)) f, number-back number kind fields h)
+spends access rights x number kind fields h o f = rw (fresh-passes number kind fields h rights o (access .lastNumber (x .page)) f, number-back number kind fields h)
 
 pub numbered-is-obeyed : NumberedIsObeyed
 numbered-is-obeyed number kind asks s h l m =
@@ -137,13 +140,13 @@ numbered-is-obeyed number kind asks s h l m =
     let n : length (numberedPayload number kind fs) ≤ 255 = omega (arith, fields-short kind asks m) in
     record {
       whole = written-is-read numberedKind (numberedPayload number kind fs) n .whole;
-      outcome = λ P access port x f. rw (received-back numberedKind (numberedPayload number kind fs) n) (handled access port x f);
+      outcome = λ P access rights x o f. rw (received-back numberedKind (numberedPayload number kind fs) n) (handled access rights x o f);
     }
   where
-    handled : {P : Type 0} (access : Access P) (port : ℕ) (x : State P) → isFresh (access .lastNumber (x .page)) number ≡ true
-        → messageOutcome access port x (record { good = true; kind = numberedKind; payload = numberedPayload number kind (askedFields kind asks) })
+    handled : {P : Type 0} (access : Access P) (rights : Rights) (x : State P) → rights .readonly ≡ false → isFresh (access .lastNumber (x .page)) number ≡ true
+        → messageOutcome access rights x (record { good = true; kind = numberedKind; payload = numberedPayload number kind (askedFields kind asks) })
         ≡ marked (askedOutcomes access kind (spent access x number) asks)
-    handled access port x f = spends access port x number kind (askedFields kind asks) s f ∙ ap marked (command-obeyed access kind (spent access x number) asks h l m)
+    handled access rights x o f = spends access rights x number kind (askedFields kind asks) s o f ∙ ap marked (command-obeyed access kind (spent access x number) asks h l m)
 
 -- ---- the command writer
 

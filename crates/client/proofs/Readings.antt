@@ -153,13 +153,13 @@ module _ (kind : ℕ) (bs : List ℕ) where
       row-two h = rw (le-leb 4 (length bs) l, f, ne-eqb (getD bs 1 0) 0x02 h)
 
       module _ (g : getD bs 1 0 ≡ 0x02) where
-        pub row-error : 6 < getD bs 3 0 → 0 ≡ rowSize kind bs
+        pub row-error : 7 < getD bs 3 0 → 0 ≡ rowSize kind bs
         unfolding rowSize
-        row-error h = rw (le-leb 4 (length bs) l, f, g, lt-leb (getD bs 3 0) 6 h)
+        row-error h = rw (le-leb 4 (length bs) l, f, g, lt-leb (getD bs 3 0) 7 h)
 
-        pub row-there : getD bs 3 0 ≤ 6 → (m : ℕ) → m ≡ valueFieldSize kind (getD bs 2 0) (getD bs 3 0) (take (length bs - 4) (drop 4 bs)) → 4 + m ≡ rowSize kind bs
+        pub row-there : getD bs 3 0 ≤ 7 → (m : ℕ) → m ≡ valueFieldSize kind (getD bs 2 0) (getD bs 3 0) (take (length bs - 4) (drop 4 bs)) → 4 + m ≡ rowSize kind bs
         unfolding rowSize
-        row-there h m e = rw (le-leb 4 (length bs) l, f, g, le-leb (getD bs 3 0) 6 h, e, rest-part bs 4)
+        row-there h m e = rw (le-leb 4 (length bs) l, f, g, le-leb (getD bs 3 0) 7 h, e, rest-part bs 4)
 
 -- ---- a message
 

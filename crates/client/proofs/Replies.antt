@@ -23,17 +23,19 @@ use Rattle.message.specs.Whole.{refuse, wholeNumber}
 use Rattle.message.proofs.FieldRows.{past-all}
 use Rattle.message.proofs.RoundTrips.{written-is-read}
 use Rattle.message.proofs.Writes.{message-length}
+use Rattle.command.specs.declared.rights.Rights.{Rights}
 use Rattle.command.specs.declared.command.Command.{Command}
 use Rattle.command.specs.declared.command.Subject.{Subject}
 use Rattle.command.specs.declared.command.Subject.the-variants.{Ping, Setting as About, Unknown}
+use Rattle.command.specs.Rights.{allRights}
 use Rattle.command.specs.Command.{commandOf, commandsOf, subjectOf}
 use Rattle.command.specs.Errors.{fieldError, commandError, fieldsRefused, isKind}
 use Rattle.command.specs.Numbers.{numberedKind, numberOf, innerKind, innerPayload, isFresh, numberError}
 use Rattle.command.specs.Effects.{workingValue, valueField, effectOf}
-use Rattle.command.specs.Outcome.{State, Received, needsNumber, fieldOutcome, fieldsOutcome}
+use Rattle.command.specs.Outcome.{State, Received, denialOf, fieldOutcome, fieldsOutcome}
 use Rattle.command.specs.Handle.{fieldsIn, refusedOutcome, commandOn, commandOutcome, spent, numberedOn, numberedOutcome, messageOutcome}
 use Rattle.command.specs.Answer.{loadedFrom, numberOn, pageAccess}
-use Rattle.command.proofs.Accepts.{error-most}
+use Rattle.command.proofs.Accepts.{denial-most, error-most}
 use Rattle.command.proofs.Keeps.{value-usable}
 use Rattle.command.proofs.Pages.{Sound, field-goes, page-changes, number-small}
 use Rattle.command.proofs.Separate.{longest-reply}
@@ -79,7 +81,7 @@ next-row kind echo error g e = go (carriesValues kind && eqb error 0) (settingOf
     go false c = refl
 
 -- One row more in front, without a value.
-plain-told : (kind echo error : ℕ) → error ≤ 6 → (bs : List ℕ) (rs : List Row) → Told kind bs rs
+plain-told : (kind echo error : ℕ) → error ≤ 7 → (bs : List ℕ) (rs : List Row) → Told kind bs rs
     → Told kind (0x80 ∷ 0x02 ∷ echo ∷ error ∷ bs) (record { echo = echo; error = error; value = Absent } ∷ rs)
 unfolding rowsOf
 plain-told kind echo error h bs rs t =
@@ -87,8 +89,8 @@ plain-told kind echo error h bs rs t =
   where
     go : (fs : List Field) → Starts fs → rowsOf kind fs ≡ some rs
         → rowsOf kind (rowField echo error ∷ fs) ≡ some (record { echo = echo; error = error; value = Absent } ∷ rs)
-    go [] s e = let q : rs ≡ [] = cc in rw (le-leb error 6 h, q)
-    go (g ∷ fs) s e = rw (le-leb error 6 h, next-row kind echo error g s, e)
+    go [] s e = let q : rs ≡ [] = cc in rw (le-leb error 7 h, q)
+    go (g ∷ fs) s e = rw (le-leb error 7 h, next-row kind echo error g s, e)
 
 -- One row more, with a setting's value.
 value-told : (kind : ℕ) → carriesValues kind ≡ true → (s : Setting) (x : ℕ) → usable s x ≡ true → (bs : List ℕ) (rs : List Row) → Told kind bs rs
@@ -110,19 +112,19 @@ value-told kind v s x a bs rs t =
 -- ---- one field
 
 -- In a reply of this type, whose rows carry values where the field's own type is 02.
-module _ (kind : ℕ) (guarded : Bool) (x : State (List ℕ)) (ok : Sound x) (c : Command) (carries : c .kind ≡ 0x02 → carriesValues kind ≡ true)
+module _ (kind : ℕ) (rights : Rights) (x : State (List ℕ)) (ok : Sound x) (c : Command) (carries : c .kind ≡ 0x02 → carriesValues kind ≡ true)
     (bs : List ℕ) (rs : List Row) (t : Told kind bs rs) where
   abbrev error : ℕ
-  error = fieldError (needsNumber pageAccess guarded (x .page)) (loadedFrom (x .page)) c
+  error = fieldError (denialOf pageAccess rights (x .page)) (loadedFrom (x .page)) c
 
   -- The rows of a field, and those behind them.
   FieldTold : Type 0
-  FieldTold = Told kind (fieldOutcome pageAccess guarded x c .rows ++ bs) (record { echo = c .code; error = error; value = reported error c (x .settings) } ∷ rs)
+  FieldTold = Told kind (fieldOutcome pageAccess rights x c .rows ++ bs) (record { echo = c .code; error = error; value = reported error c (x .settings) } ∷ rs)
 
   -- A field that reports nothing has the plain row.
-  silent : effectOf (needsNumber pageAccess guarded (x .page)) (loadedFrom (x .page)) (x .settings) c .report ≡ [] → reported error c (x .settings) ≡ Absent → FieldTold
+  silent : effectOf (denialOf pageAccess rights (x .page)) (loadedFrom (x .page)) (x .settings) c .report ≡ [] → reported error c (x .settings) ≡ Absent → FieldTold
   unfolding FieldTold fieldOutcome effectOf
-  silent r v = rw (r, v) (plain-told kind (c .code) error (error-most (needsNumber pageAccess guarded (x .page)) (loadedFrom (x .page)) c) bs rs t)
+  silent r v = rw (r, v) (plain-told kind (c .code) error (error-most (denialOf pageAccess rights (x .page)) (loadedFrom (x .page)) c (denial-most pageAccess rights (x .page))) bs rs t)
 
   about-told : (s : Setting) → subjectOf (c .kind) (c .code) ≡ About s → error ≡ 0 → (f : ℕ) → c .function ≡ f → FieldTold
   unfolding FieldTold fieldOutcome effectOf
@@ -150,27 +152,27 @@ module _ (kind : ℕ) (guarded : Bool) (x : State (List ℕ)) (ok : Sound x) (c 
       let d : eqb (suc n) 0 ≡ false = ne-eqb (suc n) 0 (λ h. omega arith) in
       silent (rw e) (rw (e, d))
 
-  field-told : Told kind (fieldOutcome pageAccess guarded x c .rows ++ bs) (record { echo = c .code; error = error; value = reported error c (x .settings) } ∷ rs)
+  field-told : Told kind (fieldOutcome pageAccess rights x c .rows ++ bs) (record { echo = c .code; error = error; value = reported error c (x .settings) } ∷ rs)
   unfolding FieldTold
   field-told = error-told error refl
 
 -- ---- the fields of a command
 
 -- Of type `inner`, in a reply of this type.
-module _ (kind inner : ℕ) (carries : inner ≡ 0x02 → carriesValues kind ≡ true) (guarded : Bool) where
+module _ (kind inner : ℕ) (carries : inner ≡ 0x02 → carriesValues kind ≡ true) (rights : Rights) where
   fields-told : (x : State (List ℕ)) (fs : List Field) → Sound x
-      → Told kind (fieldsOutcome pageAccess guarded x (commandsOf inner fs) .rows) (fieldRows pageAccess guarded x (commandsOf inner fs))
+      → Told kind (fieldsOutcome pageAccess rights x (commandsOf inner fs) .rows) (fieldRows pageAccess rights x (commandsOf inner fs))
   unfolding fieldsOutcome commandOf
   fields-told x [] ok = no-told kind
   fields-told x (f ∷ fs) ok =
       let c : Command = commandOf inner f in
-      let next : State (List ℕ) = fieldOutcome pageAccess guarded x c .next in
-      field-told kind guarded x ok c carries (fieldsOutcome pageAccess guarded next (commandsOf inner fs) .rows) (fieldRows pageAccess guarded next (commandsOf inner fs))
-      (fields-told next fs (field-goes guarded x c ok .stays))
+      let next : State (List ℕ) = fieldOutcome pageAccess rights x c .next in
+      field-told kind rights x ok c carries (fieldsOutcome pageAccess rights next (commandsOf inner fs) .rows) (fieldRows pageAccess rights next (commandsOf inner fs))
+      (fields-told next fs (field-goes rights x c ok .stays))
 
-  rows-length : (x : State (List ℕ)) (fs : List Field) → length (fieldRows pageAccess guarded x (commandsOf inner fs)) ≡ length fs
+  rows-length : (x : State (List ℕ)) (fs : List Field) → length (fieldRows pageAccess rights x (commandsOf inner fs)) ≡ length fs
   rows-length x [] = refl
-  rows-length x (f ∷ fs) = ap suc (rows-length (fieldOutcome pageAccess guarded x (commandOf inner f) .next) fs)
+  rows-length x (f ∷ fs) = ap suc (rows-length (fieldOutcome pageAccess rights x (commandOf inner f) .next) fs)
 
 several-rows : (kind : ℕ) → isKind kind ≡ true → severalRows kind ≡ true
 several-rows kind k = go (eqb kind 0x01) (eqb kind 0x02) k
@@ -207,53 +209,54 @@ told-read kind p rs k t e = rw (t .are, t .rows, e)
 record Read (kind : ℕ) (bs : List ℕ) (rs : List Row) : Type 0 where
   pub read : (k : ℕ) → rowsRead kind (rowsIn kind (fieldsOf bs)) k ≡ rowRead kind rs k
 
-plain-read : (kind echo error : ℕ) → error ≤ 6 → Read kind (0x80 ∷ 0x02 ∷ echo ∷ error ∷ []) (plainRow echo error)
+plain-read : (kind echo error : ℕ) → error ≤ 7 → Read kind (0x80 ∷ 0x02 ∷ echo ∷ error ∷ []) (plainRow echo error)
 plain-read kind echo error h =
     record { read = λ k. told-read kind (0x80 ∷ 0x02 ∷ echo ∷ error ∷ []) (plainRow echo error) k (plain-told kind echo error h [] [] (no-told kind)) refl }
 
 -- The errors of a command as a whole, and of a number, are of the table.
-command-errors : (kind : ℕ) (payload : List ℕ) → commandError kind payload ≤ 6
+command-errors : (kind : ℕ) (payload : List ℕ) → commandError kind payload ≤ 7
 unfolding commandError
 command-errors kind payload = go (not (isKind kind)) (eqb (length payload) 0) (fieldsRefused (fieldsOf payload))
   where
-    go : (b c d : Bool) → refuse b 2 (refuse c 3 (refuse d 4 0)) ≤ 6
+    go : (b c d : Bool) → refuse b 2 (refuse c 3 (refuse d 4 0)) ≤ 7
     go true c d = omega arith
     go false true d = omega arith
     go false false true = omega arith
     go false false false = omega arith
 
-number-errors : (last : Stored) (payload : List ℕ) → numberError last payload ≤ 6
+number-errors : (rights : Rights) (last : Stored) (payload : List ℕ) → numberError rights last payload ≤ 7
 unfolding numberError
-number-errors last payload = go (ltb (length payload) 5) (not (isFresh last (numberOf payload)))
+number-errors rights last payload = go (rights .readonly) (ltb (length payload) 5) (not (isFresh last (numberOf payload)))
   where
-    go : (b c : Bool) → refuse b 4 (refuse c 5 0) ≤ 6
-    go true c = omega arith
-    go false true = omega arith
-    go false false = omega arith
+    go : (a b c : Bool) → refuse a 7 (refuse b 4 (refuse c 5 0)) ≤ 7
+    go true b c = omega arith
+    go false true c = omega arith
+    go false false true = omega arith
+    go false false false = omega arith
 
 -- A command of type `inner` in a reply of a type that may carry its rows.
 command-read : (kind inner : ℕ) → (isKind inner ≡ true → severalRows kind ≡ true) → (inner ≡ 0x02 → carriesValues kind ≡ true)
-    → (guarded : Bool) (x : State (List ℕ)) (payload : List ℕ) → Sound x
-    → Read kind (commandOutcome pageAccess guarded x inner payload .rows) (commandRows pageAccess guarded x inner payload)
+    → (rights : Rights) (x : State (List ℕ)) (payload : List ℕ) → Sound x
+    → Read kind (commandOutcome pageAccess rights x inner payload .rows) (commandRows pageAccess rights x inner payload)
 unfolding commandOutcome
-command-read kind inner several carries guarded x payload ok = go (commandError inner payload) refl
+command-read kind inner several carries rights x payload ok = go (commandError inner payload) refl
   where
     go : (n : ℕ) → commandError inner payload ≡ n
-        → Read kind (commandOn pageAccess n guarded x inner payload .rows) (commandRowsOn pageAccess n guarded x inner payload)
+        → Read kind (commandOn pageAccess n rights x inner payload .rows) (commandRowsOn pageAccess n rights x inner payload)
     go zero e =
         let fs : List Field = fieldsIn (fieldsOf payload) in
-        let rs : List Row = fieldRows pageAccess guarded x (commandsOf inner fs) in
+        let rs : List Row = fieldRows pageAccess rights x (commandsOf inner fs) in
         let l = fields-some inner payload e in
-        let q : length rs ≡ length fs = rows-length kind inner carries guarded x fs in
+        let q : length rs ≡ length fs = rows-length kind inner carries rights x fs in
         let r : rowsWrong kind (length rs) ≡ false =
         rows-right kind (length rs) (several (command-passed inner payload e .kind-known)) (omega (arith, l .0)) (omega (arith, l .1)) in
-        record { read = λ k. told-read kind (fieldsOutcome pageAccess guarded x (commandsOf inner fs) .rows) rs k (fields-told kind inner carries guarded x fs ok) r }
+        record { read = λ k. told-read kind (fieldsOutcome pageAccess rights x (commandsOf inner fs) .rows) rs k (fields-told kind inner carries rights x fs ok) r }
     go (suc n) e = plain-read kind (getD payload 0 0) (suc n) (omega (arith, command-errors inner payload))
 
-numbered-read : (x : State (List ℕ)) (payload : List ℕ) → Sound x
-    → Read numberedKind (numberedOutcome pageAccess x payload .rows) (numberedRowsOn pageAccess (numberError (numberOn (x .page)) payload) x payload)
+numbered-read : (rights : Rights) (x : State (List ℕ)) (payload : List ℕ) → Sound x
+    → Read numberedKind (numberedOutcome pageAccess rights x payload .rows) (numberedRowsOn pageAccess (numberError rights (numberOn (x .page)) payload) x payload)
 unfolding numberedOutcome
-numbered-read x payload ok = go (numberError (numberOn (x .page)) payload) refl
+numbered-read rights x payload ok = go (numberError rights (numberOn (x .page)) payload) refl
   where
     n : ℕ
     n = numberOf payload
@@ -261,35 +264,35 @@ numbered-read x payload ok = go (numberError (numberOn (x .page)) payload) refl
     spent-sound : Sound (spent pageAccess x n)
     spent-sound = record { settings = ok .settings; page = page-changes (x .page) lastNumber n (ok .page) (lt-ltb n 4294967296 (number-small payload)) .sound-page }
 
-    go : (e : ℕ) → numberError (numberOn (x .page)) payload ≡ e
+    go : (e : ℕ) → numberError rights (numberOn (x .page)) payload ≡ e
         → Read numberedKind (numberedOn pageAccess e x payload .rows) (numberedRowsOn pageAccess e x payload)
-    go zero h = command-read numberedKind (innerKind payload) (λ k. refl) (λ k. refl) false (spent pageAccess x n) (innerPayload payload) spent-sound
-    go (suc e) h = plain-read numberedKind (getD (innerPayload payload) 0 0) (suc e) (omega (arith, number-errors (numberOn (x .page)) payload))
+    go zero h = command-read numberedKind (innerKind payload) (λ k. refl) (λ k. refl) allRights (spent pageAccess x n) (innerPayload payload) spent-sound
+    go (suc e) h = plain-read numberedKind (getD (innerPayload payload) 0 0) (suc e) (omega (arith, number-errors rights (numberOn (x .page)) payload))
 
-module _ (port : ℕ) (m : Received) (x : State (List ℕ)) (ok : Sound x) where
-  rows-read : Read (m .kind) (messageOutcome pageAccess port x m .rows) (messageRows pageAccess port x m)
+module _ (rights : Rights) (m : Received) (x : State (List ℕ)) (ok : Sound x) where
+  rows-read : Read (m .kind) (messageOutcome pageAccess rights x m .rows) (messageRows pageAccess rights x m)
   unfolding messageOutcome
   rows-read = go (not (m .good)) (eqb (m .kind) numberedKind) refl
     where
       go : (a b : Bool) → eqb (m .kind) numberedKind ≡ b
           → Read (m .kind)
           (cond a (refusedOutcome (getD (m .payload) 0 0) 1 x)
-          (cond b (numberedOutcome pageAccess x (m .payload)) (commandOutcome pageAccess (eqb port 0) x (m .kind) (m .payload))) .rows)
+          (cond b (numberedOutcome pageAccess rights x (m .payload)) (commandOutcome pageAccess rights x (m .kind) (m .payload))) .rows)
           (cond a (plainRow (getD (m .payload) 0 0) 1)
-          (cond b (numberedRowsOn pageAccess (numberError (numberOn (x .page)) (m .payload)) x (m .payload)) (commandRows pageAccess (eqb port 0) x (m .kind) (m .payload))))
+          (cond b (numberedRowsOn pageAccess (numberError rights (numberOn (x .page)) (m .payload)) x (m .payload)) (commandRows pageAccess rights x (m .kind) (m .payload))))
       go true b e = plain-read (m .kind) (getD (m .payload) 0 0) 1 (omega arith)
-      go false true e = let k : m .kind ≡ numberedKind = eqb-true (m .kind) numberedKind e in rw k (numbered-read x (m .payload) ok)
-      go false false e = command-read (m .kind) (m .kind) (several-rows (m .kind)) (λ k. rw k) (eqb port 0) x (m .payload) ok
+      go false true e = let k : m .kind ≡ numberedKind = eqb-true (m .kind) numberedKind e in rw k (numbered-read rights x (m .payload) ok)
+      go false false e = command-read (m .kind) (m .kind) (several-rows (m .kind)) (λ k. rw k) rights x (m .payload) ok
 
 pub replies-read : RepliesRead
-replies-read port m w page k s a =
+replies-read rights m w page k s a =
     let x : State (List ℕ) = record { settings = w; page = page } in
-    let p : List ℕ = messageOutcome pageAccess port x m .rows in
-    let l : length p ≤ 255 = omega (arith, message-length (m .kind) p, longest-reply .most (List ℕ) pageAccess port x m) in
-    message-read (m .kind) p k l ∙ rows-read port m x (record { settings = a; page = s }) .read k
+    let p : List ℕ = messageOutcome pageAccess rights x m .rows in
+    let l : length p ≤ 255 = omega (arith, message-length (m .kind) p, longest-reply .most (List ℕ) pageAccess rights x m) in
+    message-read (m .kind) p k l ∙ rows-read rights m x (record { settings = a; page = s }) .read k
 
 -- ---- replies of older boards, computed
 
 pub older-read : OlderRead
 unfolding settingOf readable messageOf sumsRight fieldsOf wholeNumber valueAfter rowsOf replyRead
-older-read = record { none = refl; five = refl; six = refl; seven = refl; eight = refl; error-six = refl; error-seven = refl }
+older-read = record { none = refl; five = refl; six = refl; seven = refl; eight = refl; error-six = refl; error-seven = refl; error-eight = refl }

@@ -102,10 +102,10 @@ first-size false true true f e = differ (sym e)
 first-size false true false f e = differ (sym f)
 first-size false false t f e = differ (sym e)
 
-module _ (needs : Bool) (loaded : Setting → Stored) (kind : ℕ) (f : Field) (sized : f .size ≡ length (f .content)) (bytes : (i : ℕ) → getD (f .content) i 0 < 256)
-    (free : fieldError needs loaded (commandOf kind f) ≡ 0) where
+module _ (denial : ℕ) (loaded : Setting → Stored) (kind : ℕ) (f : Field) (sized : f .size ≡ length (f .content)) (bytes : (i : ℕ) → getD (f .content) i 0 < 256)
+    (free : fieldError denial loaded (commandOf kind f) ≡ 0) where
   passed : Accepted loaded (commandOf kind f)
-  passed = accepted needs loaded (commandOf kind f) free
+  passed = accepted denial loaded (commandOf kind f) free
 
   about-is : (s : Setting) → subjectOf kind (f .code) ≡ About s → (t : Bool) → eqb (getD (f .content) 0 0) 1 ≡ t → FieldIs kind f
   unfolding commandOf
@@ -158,18 +158,18 @@ record FieldsAre (kind : ℕ) (fs : List Field) : Type 0 where
   right : allRight kind asked ≡ true
   written : rowBytes (allLookedAt kind fs) ≡ askedFields kind asked
 
-fields-are : (needs : Bool) (kind : ℕ) (fs : List Field) → SizesRight fs → ((i : ℕ) → getD (rowBytes fs) i 0 < 256) → NoErrors needs kind fs → FieldsAre kind fs
-fields-are needs kind [] s b e = record { asked = []; right = refl; written = refl }
-fields-are needs kind (f ∷ fs) s b e =
-    let one = field-is needs (e .0 .0) kind f (s .0) (λ i. front-byte (fieldBytes f) (rowBytes fs) b (suc (suc i))) (e .0 .1) (subjectOf kind (f .code)) refl in
-    let more = fields-are needs kind fs (s .1) (behind-byte (fieldBytes f) (rowBytes fs) b) (e .1) in
+fields-are : (denial : ℕ) (kind : ℕ) (fs : List Field) → SizesRight fs → ((i : ℕ) → getD (rowBytes fs) i 0 < 256) → NoErrors denial kind fs → FieldsAre kind fs
+fields-are denial kind [] s b e = record { asked = []; right = refl; written = refl }
+fields-are denial kind (f ∷ fs) s b e =
+    let one = field-is denial (e .0 .0) kind f (s .0) (λ i. front-byte (fieldBytes f) (rowBytes fs) b (suc (suc i))) (e .0 .1) (subjectOf kind (f .code)) refl in
+    let more = fields-are denial kind fs (s .1) (behind-byte (fieldBytes f) (rowBytes fs) b) (e .1) in
     record { asked = one .asked ∷ more .asked; right = rw (one .right, more .right); written = rw (← one .written, more .written) }
 
 pub obeyed-is-written : ObeyedIsWritten
-obeyed-is-written needs m fs b e free =
+obeyed-is-written denial m fs b e free =
     let f = fields-fill (payloadOf m) fs e in
     let q : (i : ℕ) → getD (payloadOf m) i 0 < 256 = taken-byte (lengthOf m) (drop 4 m) (λ i. rw (getD-drop 4 m i 0) (b (4 + i))) in
-    let r = fields-are needs (typeOf m) fs (f .1) (rw (f .0) q) free in
+    let r = fields-are denial (typeOf m) fs (f .1) (rw (f .0) q) free in
     record { asked = r .asked; right = r .right; written = r .written }
 
 -- ---- one field
@@ -185,11 +185,11 @@ known kind code Unknown f v e a = differ (sym a)
 
 pub one-obeyed-is-written : OneObeyedIsWritten
 unfolding commandMessage
-one-obeyed-is-written needs loaded m f b e free =
+one-obeyed-is-written denial loaded m f b e free =
     let h = fields-fill (payloadOf m) (f ∷ []) e in
     let q : (i : ℕ) → getD (payloadOf m) i 0 < 256 = taken-byte (lengthOf m) (drop 4 m) (λ i. rw (getD-drop 4 m i 0) (b (4 + i))) in
     let p : (i : ℕ) → getD (rowBytes (f ∷ [])) i 0 < 256 = subst (λ (l : List ℕ). (i : ℕ) → getD l i 0 < 256) (sym (h .0)) q in
-    let one = field-is needs loaded (typeOf m) f (h .1 .0) (λ i. front-byte (fieldBytes f) [] p (suc (suc i))) free (subjectOf (typeOf m) (f .code)) refl in
+    let one = field-is denial loaded (typeOf m) f (h .1 .0) (λ i. front-byte (fieldBytes f) [] p (suc (suc i))) free (subjectOf (typeOf m) (f .code)) refl in
     let a : Asked = one .asked in
     let k = known (typeOf m) (a .code) (subjectOf (typeOf m) (a .code)) (a .function) (a .value) refl (one .right) in
     let t = kind-back (typeOf m) (a .code) (subjectOf (typeOf m) (a .code)) (a .function) (a .value) refl (one .right) in

@@ -1,7 +1,7 @@
 -- What is proved of the command writer, beyond the contracts of the code. Each statement names its proof, a term of that type in a
 -- file of proofs/.
 use mathlib.Core.Path.{_≡_}
-use mathlib.Core.Bool.{Bool, true, _&&_, not}
+use mathlib.Core.Bool.{Bool, true, false, _&&_, not}
 use mathlib.Core.List.{List, [], _∷_, _++_}
 use Prim.Native.Nat.{ℕ, zero, suc, _+_, _<_, _≤_}
 use lib.Dec.{eqb}
@@ -12,9 +12,11 @@ use Rattle.page.specs.Page.{isThere}
 use Rattle.message.specs.Message.{messageOf}
 use Rattle.message.specs.Whole.{refuse, wholeNumber}
 use Rattle.message.specs.Write.{Writing}
+use Rattle.command.specs.declared.rights.Rights.{Rights}
 use Rattle.command.specs.declared.settings.Settings.{Settings}
 use Rattle.command.specs.declared.command.Subject.{Subject}
 use Rattle.command.specs.declared.command.Subject.the-variants.{Ping, Setting as About, Unknown}
+use Rattle.command.specs.Rights.{allRights}
 use Rattle.command.specs.Effects.{Effect, leaving, functionEffect}
 use Rattle.command.specs.Errors.{mostFields}
 use Rattle.command.specs.Numbers.{numberedKind, isFresh}
@@ -59,23 +61,23 @@ allRight kind (a ∷ asks) = askedRight kind a && allRight kind asks
 
 -- ---- what is written is obeyed
 
--- A message of 1 to 16 such fields is whole. On port 1 it is handled without error, but for function 4 on a page that holds a value that is
--- not usable on this board, with exactly their effects in order, whatever the settings and the page. (On port 0 it is the same as long
--- as the page has no number: `WithoutNumber` in crate command.)
+-- A message of 1 to 16 such fields is whole. With all rights (port 1 of the full profile) it is handled without error, but for function 4
+-- on a page that holds a value that is not usable on this board, with exactly their effects in order, whatever the settings and the page.
+-- (On port 0 it is the same as long as the page has no number: `WithoutNumber` in crate command.)
 pub record Obeyed (kind : ℕ) (asks : List Asked) : Type 1 where
   pub whole : wholeNumber (messageOf kind (askedFields kind asks)) ≡ 0
   pub outcome : (P : Type 0) (access : Access P) (x : State P)
-      → messageOutcome access 1 x (receivedOf true (messageOf kind (askedFields kind asks))) ≡ askedOutcomes access kind x asks
+      → messageOutcome access allRights x (receivedOf true (messageOf kind (askedFields kind asks))) ≡ askedOutcomes access kind x asks
 
 -- Proof: Obedience `written-is-obeyed`.
 abbrev pub WrittenIsObeyed : Type 1
 WrittenIsObeyed = (kind : ℕ) (asks : List Asked) → allRight kind asks ≡ true → 1 ≤ length asks → length asks ≤ mostFields → Obeyed kind asks
 
--- Behind a fresh number it is handled so on every port, on the page with the number, and the mark of a save is set.
+-- Behind a fresh number it is handled so wherever a number is allowed, on the page with the number, and the mark of a save is set.
 pub record ObeyedNumbered (number kind : ℕ) (asks : List Asked) : Type 1 where
   pub whole : wholeNumber (messageOf numberedKind (numberedPayload number kind (askedFields kind asks))) ≡ 0
-  pub outcome : (P : Type 0) (access : Access P) (port : ℕ) (x : State P) → isFresh (access .lastNumber (x .page)) number ≡ true
-      → messageOutcome access port x (receivedOf true (messageOf numberedKind (numberedPayload number kind (askedFields kind asks))))
+  pub outcome : (P : Type 0) (access : Access P) (rights : Rights) (x : State P) → rights .readonly ≡ false → isFresh (access .lastNumber (x .page)) number ≡ true
+      → messageOutcome access rights x (receivedOf true (messageOf numberedKind (numberedPayload number kind (askedFields kind asks))))
       ≡ marked (askedOutcomes access kind (spent access x number) asks)
 
 -- Proof: Obedience `numbered-is-obeyed`.

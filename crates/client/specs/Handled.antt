@@ -1,7 +1,7 @@
 -- What is proved of messages that are handled without error: they are what the command writers write. Each statement names its proof, a
 -- term of that type in a file of proofs/.
 use mathlib.Core.Path.{_≡_}
-use mathlib.Core.Bool.{Bool, true, _&&_, cond}
+use mathlib.Core.Bool.{true, _&&_, cond}
 use mathlib.Core.List.{List, [], _∷_}
 use mathlib.Core.Option.{some}
 use Prim.Native.Nat.{ℕ, _<_}
@@ -25,10 +25,10 @@ abbrev pub allLookedAt : ℕ → List Field → List Field
 allLookedAt kind [] = []
 allLookedAt kind (f ∷ fs) = lookedAt kind f ∷ allLookedAt kind fs
 
--- Each field is handled without error, whether or not it needs a number, for some values to be loaded.
-abbrev pub NoErrors : Bool → ℕ → List Field → Type 0
-NoErrors needs kind [] = Unit {0}
-NoErrors needs kind (f ∷ fs) = ((loaded : Setting → Stored) × (fieldError needs loaded (commandOf kind f) ≡ 0)) × NoErrors needs kind fs
+-- Each field is handled without error, whatever functions 1, 3, 4 and 5 are denied with, for some values to be loaded.
+abbrev pub NoErrors : ℕ → ℕ → List Field → Type 0
+NoErrors denial kind [] = Unit {0}
+NoErrors denial kind (f ∷ fs) = ((loaded : Setting → Stored) × (fieldError denial loaded (commandOf kind f) ≡ 0)) × NoErrors denial kind fs
 
 -- Every message of type 01 or 02 whose fields are all handled without error is, but for the value bytes that are not looked at, one of what is
 -- asked by its codes, functions and values. (The value bytes are bytes.)
@@ -40,7 +40,7 @@ pub record IsCommand (m : List ℕ) (fs : List Field) : Type 0 where
 -- Proof: Written `obeyed-is-written`.
 abbrev pub ObeyedIsWritten : Type 0
 ObeyedIsWritten =
-    (needs : Bool) (m : List ℕ) (fs : List Field) → ((i : ℕ) → getD m i 0 < 256) → fieldsOf (payloadOf m) ≡ some fs → NoErrors needs (typeOf m) fs → IsCommand m fs
+    (denial : ℕ) (m : List ℕ) (fs : List Field) → ((i : ℕ) → getD m i 0 < 256) → fieldsOf (payloadOf m) ≡ some fs → NoErrors denial (typeOf m) fs → IsCommand m fs
 
 -- Of one field: but for those bytes, it is what the command writer writes.
 pub record IsWritten (m : List ℕ) (f : Field) : Type 0 where
@@ -53,5 +53,5 @@ pub record IsWritten (m : List ℕ) (f : Field) : Type 0 where
 -- Proof: Written `one-obeyed-is-written`.
 abbrev pub OneObeyedIsWritten : Type 0
 OneObeyedIsWritten =
-    (needs : Bool) (loaded : Setting → Stored) (m : List ℕ) (f : Field) → ((i : ℕ) → getD m i 0 < 256) → fieldsOf (payloadOf m) ≡ some (f ∷ [])
-    → fieldError needs loaded (commandOf (typeOf m) f) ≡ 0 → IsWritten m f
+    (denial : ℕ) (loaded : Setting → Stored) (m : List ℕ) (f : Field) → ((i : ℕ) → getD m i 0 < 256) → fieldsOf (payloadOf m) ≡ some (f ∷ [])
+    → fieldError denial loaded (commandOf (typeOf m) f) ≡ 0 → IsWritten m f

@@ -1,4 +1,4 @@
--- Document 01, "Handling one message", and requests 02, 03 and 05: the reply reader, which reads one row of a reply.
+-- Document 01, "Handling one message", and requests 02, 03, 05 and 12: the reply reader, which reads one row of a reply.
 use mathlib.Core.Bool.{Bool, true, false, _&&_, _||_, not}
 use mathlib.Core.List.{List, [], _∷_}
 use mathlib.Core.Option.{Option, none, some}
@@ -36,9 +36,9 @@ pub record Row : Type 0 where
   pub error : ℕ
   pub value : Stored
 
--- The errors of the table, 0 to 6.
+-- The errors of the table, 0 to 7.
 abbrev pub isError : ℕ → Bool
-isError e = leb e 6
+isError e = leb e 7
 
 abbrev pub echoIn : Field → ℕ
 echoIn f = getD (f .content) 0 0

@@ -1,7 +1,7 @@
 -- What is proved of the reply reader, beyond the contract of the code. Each statement names its proof, a term of that type in a file of
 -- proofs/.
 use mathlib.Core.Path.{_≡_}
-use mathlib.Core.Bool.{Bool, true, false, not, cond}
+use mathlib.Core.Bool.{true, not, cond}
 use mathlib.Core.List.{List, [], _∷_}
 use Prim.Native.Nat.{ℕ, zero, suc}
 use lib.Dec.{eqb}
@@ -11,15 +11,17 @@ use Rattle.page.specs.declared.setting.Stored.the-variants.{Absent, Value}
 use Rattle.page.specs.Sound.{sound}
 use Rattle.message.specs.Fields.{fieldsOf}
 use Rattle.message.specs.Message.{messageOf}
+use Rattle.command.specs.declared.rights.Rights.{Rights}
 use Rattle.command.specs.declared.settings.Settings.{Settings}
 use Rattle.command.specs.declared.command.Command.{Command}
 use Rattle.command.specs.declared.command.Subject.{Subject}
 use Rattle.command.specs.declared.command.Subject.the-variants.{Ping, Setting as About, Unknown}
+use Rattle.command.specs.Rights.{allRights}
 use Rattle.command.specs.Command.{subjectOf, commandsOf}
 use Rattle.command.specs.Errors.{fieldError, commandError}
 use Rattle.command.specs.Numbers.{numberedKind, numberOf, innerKind, innerPayload, numberError}
 use Rattle.command.specs.Effects.{workingValue, settingsUsable}
-use Rattle.command.specs.Outcome.{Access, State, Received, needsNumber, fieldOutcome}
+use Rattle.command.specs.Outcome.{Access, State, Received, denialOf, fieldOutcome}
 use Rattle.command.specs.Handle.{fieldsIn, spent}
 use Rattle.command.specs.Answer.{pageAccess}
 use Rattle.command.specs.Theorems.{replyTo}
@@ -41,37 +43,37 @@ plainRow echo error = record { echo = echo; error = error; value = Absent } ∷ 
 
 module _ {P : Type 0} (access : Access P) where
   -- The rows of fields handled in order: the code, the error, and the value at its turn.
-  abbrev pub fieldRows : Bool → State P → List Command → List Row
-  fieldRows guarded x [] = []
-  fieldRows guarded x (c ∷ cs) =
-      let error : ℕ = fieldError (needsNumber access guarded (x .page)) (access .loaded (x .page)) c in
-      record { echo = c .code; error = error; value = reported error c (x .settings) } ∷ fieldRows guarded (fieldOutcome access guarded x c .next) cs
+  abbrev pub fieldRows : Rights → State P → List Command → List Row
+  fieldRows rights x [] = []
+  fieldRows rights x (c ∷ cs) =
+      let error : ℕ = fieldError (denialOf access rights (x .page)) (access .loaded (x .page)) c in
+      record { echo = c .code; error = error; value = reported error c (x .settings) } ∷ fieldRows rights (fieldOutcome access rights x c .next) cs
 
   -- Those of a command: one where it is refused as a whole.
-  abbrev pub commandRowsOn : ℕ → Bool → State P → ℕ → List ℕ → List Row
-  commandRowsOn zero guarded x kind payload = fieldRows guarded x (commandsOf kind (fieldsIn (fieldsOf payload)))
-  commandRowsOn (suc n) guarded x kind payload = plainRow (getD payload 0 0) (suc n)
+  abbrev pub commandRowsOn : ℕ → Rights → State P → ℕ → List ℕ → List Row
+  commandRowsOn zero rights x kind payload = fieldRows rights x (commandsOf kind (fieldsIn (fieldsOf payload)))
+  commandRowsOn (suc n) rights x kind payload = plainRow (getD payload 0 0) (suc n)
 
-  abbrev pub commandRows : Bool → State P → ℕ → List ℕ → List Row
-  commandRows guarded x kind payload = commandRowsOn (commandError kind payload) guarded x kind payload
+  abbrev pub commandRows : Rights → State P → ℕ → List ℕ → List Row
+  commandRows rights x kind payload = commandRowsOn (commandError kind payload) rights x kind payload
 
   -- Those of type 7C: one where the number is refused, else those of the command inside, on the page with the number.
   abbrev pub numberedRowsOn : ℕ → State P → List ℕ → List Row
-  numberedRowsOn zero x payload = commandRows false (spent access x (numberOf payload)) (innerKind payload) (innerPayload payload)
+  numberedRowsOn zero x payload = commandRows allRights (spent access x (numberOf payload)) (innerKind payload) (innerPayload payload)
   numberedRowsOn (suc n) x payload = plainRow (getD (innerPayload payload) 0 0) (suc n)
 
-  abbrev pub messageRows : ℕ → State P → Received → List Row
-  messageRows port x m =
+  abbrev pub messageRows : Rights → State P → Received → List Row
+  messageRows rights x m =
       cond (not (m .good)) (plainRow (getD (m .payload) 0 0) 1)
-      (cond (eqb (m .kind) numberedKind) (numberedRowsOn (numberError (access .lastNumber (x .page)) (m .payload)) x (m .payload))
-      (commandRows (eqb port 0) x (m .kind) (m .payload)))
+      (cond (eqb (m .kind) numberedKind) (numberedRowsOn (numberError rights (access .lastNumber (x .page)) (m .payload)) x (m .payload))
+      (commandRows rights x (m .kind) (m .payload)))
 
 -- Every reply that handling writes is read back, row by row, to its type, echoes, errors and values, and has no further row (27).
 -- Proof: Replies `replies-read`.
 abbrev pub RepliesRead : Type 0
 RepliesRead =
-    (port : ℕ) (m : Received) (w : Settings) (page : List ℕ) (k : ℕ) → sound page ≡ true → settingsUsable w ≡ true
-    → replyRead (replyTo port m w page) k ≡ rowRead (m .kind) (messageRows pageAccess port (record { settings = w; page = page }) m) k
+    (rights : Rights) (m : Received) (w : Settings) (page : List ℕ) (k : ℕ) → sound page ≡ true → settingsUsable w ≡ true
+    → replyRead (replyTo rights m w page) k ≡ rowRead (m .kind) (messageRows pageAccess rights (record { settings = w; page = page }) m) k
 
 -- ---- replies of older boards
 
@@ -85,7 +87,7 @@ errorReply e = messageOf 0x02 (0x80 ∷ 0x02 ∷ 0x08 ∷ e ∷ [])
 abbrev pub oneRow : ℕ → Stored → Reply
 oneRow error value = record { number = 0; kind = 0x02; echo = 0x08; error = error; value = value }
 
--- "The reply reader still takes them, from older boards": 06 and 07, and none beyond; and the errors of the table, up to 6. Proof: Replies
+-- "The reply reader still takes them, from older boards": 06 and 07, and none beyond; and the errors of the table, up to 7. Proof: Replies
 -- `older-read`.
 pub record OlderRead : Type 0 where
   pub none : replyRead (rangeReply 0x00) 0 ≡ noReply 23
@@ -94,4 +96,5 @@ pub record OlderRead : Type 0 where
   pub seven : replyRead (rangeReply 0x07) 0 ≡ oneRow 0 (Value 0x07)
   pub eight : replyRead (rangeReply 0x08) 0 ≡ noReply 23
   pub error-six : replyRead (errorReply 6) 0 ≡ oneRow 6 Absent
-  pub error-seven : replyRead (errorReply 7) 0 ≡ noReply 23
+  pub error-seven : replyRead (errorReply 7) 0 ≡ oneRow 7 Absent
+  pub error-eight : replyRead (errorReply 8) 0 ≡ noReply 23

@@ -112,7 +112,7 @@ fn row_size(kind: u8, bytes: &[u8]) -> usize
         return 0;
     }
     let error = bytes[3];
-    if 6 < error {
+    if 7 < error {
         return 0;
     }
     4 + value_field_size(kind, bytes[2], error, &bytes[4..])

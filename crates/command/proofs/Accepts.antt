@@ -1,7 +1,7 @@
 -- What a command without error has passed, and what it is about.
 use mathlib.Core.Path.{_≡_, subst}
 use mathlib.Core.Bool.{Bool, true, false, _&&_, _||_, not}
-use Prim.Native.Nat.{_≤_}
+use Prim.Native.Nat.{ℕ, _≤_}
 use native.Mathlib.Omega.{arith}
 use lib.Dec.{eqb}
 use borrow.Author.Tests.{not-false, eq-eqb}
@@ -10,13 +10,15 @@ use Rattle.page.specs.declared.setting.Stored.{Stored}
 use Rattle.page.specs.Settings.{usable, storable, notOnThisBoard}
 use Rattle.page.specs.Page.{isThere}
 use Rattle.message.specs.Whole.{refuse}
+use Rattle.command.specs.declared.rights.Rights.{Rights}
 use Rattle.command.specs.declared.command.Command.{Command}
 use Rattle.command.specs.declared.command.Subject.{Subject}
 use Rattle.command.specs.declared.command.Subject.the-variants.{Setting as About}
 use Rattle.command.specs.Command.{valueFor, subjectOf}
-use Rattle.command.specs.Errors.{isUnknown, sizeRight, functionRight, valueRight, alters, fieldWrong, notOnBoard, fieldError}
+use Rattle.command.specs.Errors.{isUnknown, sizeRight, functionRight, valueRight, alters, denied, fieldWrong, notOnBoard, fieldError}
+use Rattle.command.specs.Outcome.{Access, denialOf}
 use Rattle.stream.proofs.Bools.{or-neither}
-use Rattle.command.proofs.Tests.{none-refused}
+use Rattle.command.proofs.Tests.{none-refused, none-denied}
 
 -- The tests of a field that is not wrong.
 pub record FieldRight (subject : Subject) (c : Command) : Type 0 where
@@ -41,13 +43,12 @@ pub record Accepted (loaded : Setting → Stored) (c : Command) : Type 0 where
   pub field : FieldRight (subjectOf (c .kind) (c .code)) c
   pub on-board : notOnBoard (subjectOf (c .kind) (c .code)) loaded c ≡ false
 
-pub accepted : (needs : Bool) (loaded : Setting → Stored) (c : Command) → fieldError needs loaded c ≡ 0 → Accepted loaded c
+pub accepted : (denial : ℕ) (loaded : Setting → Stored) (c : Command) → fieldError denial loaded c ≡ 0 → Accepted loaded c
 unfolding fieldError
-accepted needs loaded c e =
+accepted denial loaded c e =
     let subject = subjectOf (c .kind) (c .code) in
     let three = none-refused (isUnknown subject) 2 _ e in
-    let five = none-refused (needs && alters subject c) 4 _ (three .1) in
-    let four = none-refused (fieldWrong subject c) 3 _ (five .1) in
+    let four = none-refused (fieldWrong subject c) 3 _ (none-denied denial (alters subject c) _ (three .1)) in
     let six = none-refused (notOnBoard subject loaded c) 5 0 (four .1) in
     record { known = three .0; field = field-right subject c (four .0); on-board = six .0 }
 
@@ -66,13 +67,21 @@ module _ (loaded : Setting → Stored) (c : Command) (s : Setting) (on : notOnBo
   pub something-loaded : c .function ≡ 4 → isThere (loaded s) ≡ true
   something-loaded f = not-false (isThere (loaded s)) (subst (λ (b : Bool). b && not (isThere (loaded s)) ≡ false) (eq-eqb (c .function) 4 f) (tests .1))
 
--- ---- errors are 0 to 6
+-- ---- errors are 0 to 7
 
-pub error-most : (needs : Bool) (loaded : Setting → Stored) (c : Command) → fieldError needs loaded c ≤ 6
-unfolding fieldError
-error-most needs loaded c = let subject = subjectOf (c .kind) (c .code) in go (isUnknown subject) (needs && alters subject c) (fieldWrong subject c) (notOnBoard subject loaded c)
+pub denial-most : {P : Type 0} (access : Access P) (rights : Rights) (page : P) → denialOf access rights page ≤ 7
+denial-most access rights page = go (rights .readonly) (rights .guarded && isThere (access .lastNumber page))
   where
-    go : (a n b o : Bool) → refuse a 3 (refuse n 5 (refuse b 4 (refuse o 6 0))) ≤ 6
+    go : (a b : Bool) → refuse a 7 (refuse b 5 0) ≤ 7
+    go true b = omega arith
+    go false true = omega arith
+    go false false = omega arith
+
+pub error-most : (denial : ℕ) (loaded : Setting → Stored) (c : Command) → denial ≤ 7 → fieldError denial loaded c ≤ 7
+unfolding fieldError
+error-most denial loaded c l = let subject = subjectOf (c .kind) (c .code) in go (isUnknown subject) (denied denial subject c) (fieldWrong subject c) (notOnBoard subject loaded c)
+  where
+    go : (a n b o : Bool) → refuse a 3 (refuse n denial (refuse b 4 (refuse o 6 0))) ≤ 7
     go true n b o = omega arith
     go false true b o = omega arith
     go false false true o = omega arith

@@ -2,12 +2,12 @@
 use Prim.Native.Nat.{ℕ, zero, suc, _+_, _-_, _≤_, _<_}
 use native.Mathlib.Omega.{arith}
 use mathlib.Core.Path.{_≡_, refl, sym, _∙_, ap, subst}
-use mathlib.Core.Bool.{Bool, true, false, _&&_, not, cond, or-true, or-false, and-true, and-false}
+use mathlib.Core.Bool.{Bool, true, false, not, cond, or-true, or-false}
 use mathlib.Core.List.{List, [], _++_, append-assoc, append-nil}
 use lib.ListN.{length, getD, take, drop, take-append-drop}
 use lib.Seq.{length-take-le, take-at, drop-at}
 use lib.Dec.{eqb}
-use borrow.Author.Tests.{lt-ltb, le-ltb, ne-eqb}
+use borrow.Author.Tests.{lt-ltb, le-ltb}
 use Rattle.page.specs.declared.setting.Setting.{Setting}
 use Rattle.page.specs.declared.setting.Setting.the-variants.{Baud, Accelerometer, Gyroscope}
 use Rattle.page.specs.declared.setting.Stored.{Stored}
@@ -19,6 +19,7 @@ use Rattle.message.specs.Fields.{fieldsOf}
 use Rattle.message.specs.Message.{messageOf, typeOf, payloadOf}
 use Rattle.message.specs.Write.{doneWriting, sealing, putAt}
 use Rattle.message.proofs.Writes.{message-length}
+use Rattle.command.specs.declared.rights.Rights.{Rights}
 use Rattle.command.specs.declared.answer.Answer.{Answer}
 use Rattle.command.specs.declared.number.Opened.{Opened}
 use Rattle.command.specs.declared.place.Progress.{Progress}
@@ -30,11 +31,12 @@ use Rattle.command.specs.Command.{valueFor, subjectOf, commandsOf}
 use Rattle.command.specs.Errors.{notOnBoard, fieldError, commandError}
 use Rattle.command.specs.Numbers.{numberedKind, numberError}
 use Rattle.command.specs.Effects.{workingValue, withWorking, Fits, valueField, functionEffect, fieldEffect, effectOn, effectOf}
-use Rattle.command.specs.Outcome.{Outcome, receivedOf, idle, thenOutcome, replyRow, effectOutcome, rowOutcome, needsNumber, fieldOutcome, fieldsOutcome}
+use Rattle.command.specs.Outcome.{Outcome, receivedOf, idle, thenOutcome, replyRow, effectOutcome, rowOutcome, denialOf, fieldWith}
 use Rattle.command.specs.Handle.{fieldsIn, refusedOutcome, commandOn, commandOutcome, numberedOn, numberedOutcome, messageOutcome}
-use Rattle.command.specs.Place.{Placed, stateOf, placed, Opening, opening, numberOpening, openingOf, openedOn, openedOutcome}
+use Rattle.command.specs.Place.{Placed, stateOf, placed, Opening, opening, numberOpening, openingOf, fieldsWith, rightsBehind, openedOn, openedOutcome}
 use Rattle.command.specs.Answer.{loadedFrom, savedOn, numberOn, pageAccess, replyRoom, Answering, answerWith, answering}
 use Rattle.command.proofs.Accepts.{accepted, something-loaded}
+use Rattle.command.proofs.Numbers.{fields-denied}
 use Rattle.command.proofs.Places.{put-length, put-behind, placed-then}
 use Rattle.command.proofs.Rows.{function-row, message-most}
 use Rattle.command.proofs.Spends.{inner-payload}
@@ -132,10 +134,10 @@ module _ (p : Progress) (room page : List ℕ) where
         only (suc (suc (suc (suc (suc f))))) n m = refl
 
   -- Any field.
-  module _ (guarded : Bool) (c : Command) (error : ℕ) (es : error ≡ fieldError (needsNumber pageAccess guarded page) (loadedFrom page) c) (q : Progress) (mid : List ℕ)
+  module _ (denial : ℕ) (c : Command) (error : ℕ) (es : error ≡ fieldError denial (loadedFrom page) c) (q : Progress) (mid : List ℕ)
       (e : q ≡ record { end = p .end + 4; saved = p .saved; settings = p .settings }) (m : mid ≡ putAt (p .end) (replyRow (c .code) error []) room) where
-    pub field-refused : (error ≡ 0 → ⊥) → record { done = q; room = mid; page = page } ≡ placed p (fieldOutcome pageAccess guarded (stateOf p page) c) room
-    unfolding fieldOutcome effectOf
+    pub field-refused : (error ≡ 0 → ⊥) → record { done = q; room = mid; page = page } ≡ placed p (fieldWith pageAccess denial (stateOf p page) c) room
+    unfolding effectOf
     field-refused n = placed-row q mid (c .code) error e m ∙ rw (← es) (go error n)
       where
         go : (n : ℕ) → (n ≡ 0 → ⊥) → placed p (rowOutcome (c .code) n (idle (stateOf p page))) room
@@ -153,21 +155,21 @@ module _ (p : Progress) (room page : List ℕ) where
       -- Under function 4 a value is loaded.
       pub field-loads : (s : Setting) → subject ≡ About s → c .function ≡ 4 → isThere (loadedFrom page s) ≡ true
       field-loads s k f =
-          let a = accepted (needsNumber pageAccess guarded page) (loadedFrom page) c (sym es ∙ zero-error) in
+          let a = accepted denial (loadedFrom page) c (sym es ∙ zero-error) in
           something-loaded (loadedFrom page) c s (subst (λ (b : Subject). notOnBoard b (loadedFrom page) c ≡ false) (sym ss ∙ k) (a .on-board)) f
 
-      pub field-ping : subject ≡ Ping → record { done = q; room = mid; page = page } ≡ placed p (fieldOutcome pageAccess guarded (stateOf p page) c) room
-      unfolding fieldOutcome effectOf
+      pub field-ping : subject ≡ Ping → record { done = q; room = mid; page = page } ≡ placed p (fieldWith pageAccess denial (stateOf p page) c) room
+      unfolding effectOf
       field-ping k = placed-row q mid (c .code) error e m ∙ rw (← es, zero-error, ← ss, k)
 
-      pub field-unknown : subject ≡ Unknown → record { done = q; room = mid; page = page } ≡ placed p (fieldOutcome pageAccess guarded (stateOf p page) c) room
-      unfolding fieldOutcome effectOf
+      pub field-unknown : subject ≡ Unknown → record { done = q; room = mid; page = page } ≡ placed p (fieldWith pageAccess denial (stateOf p page) c) room
+      unfolding effectOf
       field-unknown k = placed-row q mid (c .code) error e m ∙ rw (← es, zero-error, ← ss, k)
 
       pub field-setting : p .end + 10 ≤ length room → (s : Setting) → subject ≡ About s → (done : Placed)
           → done ≡ placed q (effectOutcome savedOn (functionEffect (c .function) (loadedFrom page) (q .settings) s (valueFor s c)) (stateOf q page)) mid
-          → done ≡ placed p (fieldOutcome pageAccess guarded (stateOf p page) c) room
-      unfolding fieldOutcome effectOf
+          → done ≡ placed p (fieldWith pageAccess denial (stateOf p page) c) room
+      unfolding effectOf
       field-setting h s k done d =
           let a : Outcome (List ℕ) = rowOutcome (c .code) 0 (idle (stateOf p page)) in
           let b : Outcome (List ℕ) = effectOutcome savedOn (functionEffect (c .function) (loadedFrom page) (p .settings) s (valueFor s c)) (stateOf p page) in
@@ -207,51 +209,52 @@ sealed-rows kind rows room few large =
 
 module _ (p : Progress) (room page : List ℕ) where
   -- A command refused as a whole, and one whose fields are reached.
-  module _ (guarded : Bool) (kind : ℕ) (payload : List ℕ) (error : ℕ) (es : error ≡ commandError kind payload) where
+  module _ (rights : Rights) (kind : ℕ) (payload : List ℕ) (error : ℕ) (es : error ≡ commandError kind payload) where
     pub command-refused : (error ≡ 0 → ⊥) → (echo : ℕ) → echo ≡ getD payload 0 0 → (done : Placed)
         → done ≡ placed p (refusedOutcome echo error (stateOf p page)) room
-        → done ≡ placed p (commandOutcome pageAccess guarded (stateOf p page) kind payload) room
+        → done ≡ placed p (commandOutcome pageAccess rights (stateOf p page) kind payload) room
     unfolding commandOutcome
     command-refused n echo cs done h = h ∙ rw (← es, cs) (go error n)
       where
         go : (error : ℕ) → (error ≡ 0 → ⊥) → placed p (refusedOutcome (getD payload 0 0) error (stateOf p page)) room
-            ≡ placed p (commandOn pageAccess error guarded (stateOf p page) kind payload) room
+            ≡ placed p (commandOn pageAccess error rights (stateOf p page) kind payload) room
         go zero n = absurd (n refl)
         go (suc k) n = refl
 
-    pub command-reached : error ≡ 0 → (done : Placed)
-        → done ≡ placed p (fieldsOutcome pageAccess guarded (stateOf p page) (commandsOf kind (fieldsIn (fieldsOf payload)))) room
-        → done ≡ placed p (commandOutcome pageAccess guarded (stateOf p page) kind payload) room
+    pub command-reached : error ≡ 0 → (denial : ℕ) → denial ≡ denialOf pageAccess rights page → (done : Placed)
+        → done ≡ placed p (fieldsWith denial (stateOf p page) (commandsOf kind (fieldsIn (fieldsOf payload)))) room
+        → done ≡ placed p (commandOutcome pageAccess rights (stateOf p page) kind payload) room
     unfolding commandOutcome
-    command-reached z done h = h ∙ rw (← es, z)
+    command-reached z denial ds done h =
+        h ∙ rw (← es, z, ds) (ap (λ (o : Outcome (List ℕ)). placed p o room) (sym (fields-denied rights (stateOf p page) (commandsOf kind (fieldsIn (fieldsOf payload))))))
 
   -- What a message was opened to.
-  module _ (port : ℕ) (o : Opened) (part : List ℕ) where
+  module _ (rights : Rights) (o : Opened) (part : List ℕ) where
     pub opened-refused : (o .error ≡ 0 → ⊥) → (echo : ℕ) → echo ≡ getD part 0 0 → (done : Placed)
-        → done ≡ placed p (refusedOutcome echo (o .error) (stateOf p page)) room → done ≡ placed p (openedOutcome port o (stateOf p page) part) room
+        → done ≡ placed p (refusedOutcome echo (o .error) (stateOf p page)) room → done ≡ placed p (openedOutcome rights o (stateOf p page) part) room
     opened-refused n echo cs done h = h ∙ rw cs (go (o .error) n)
       where
         go : (error : ℕ) → (error ≡ 0 → ⊥) → placed p (refusedOutcome (getD part 0 0) error (stateOf p page)) room
-            ≡ placed p (openedOn error port o (stateOf p page) part) room
+            ≡ placed p (openedOn error rights o (stateOf p page) part) room
         go zero n = absurd (n refl)
         go (suc k) n = refl
 
-    pub opened-command : o .error ≡ 0 → (guarded : Bool) → guarded ≡ eqb port 0 && not (o .numbered) → (done : Placed)
-        → done ≡ placed p (commandOutcome pageAccess guarded (stateOf p page) (o .kind) part) room
-        → done ≡ placed p (openedOutcome port o (stateOf p page) part) room
-    opened-command z guarded g done h = h ∙ rw (g, z)
+    pub opened-command : o .error ≡ 0 → (done : Placed)
+        → done ≡ placed p (commandOutcome pageAccess (rightsBehind (o .numbered) rights) (stateOf p page) (o .kind) part) room
+        → done ≡ placed p (openedOutcome rights o (stateOf p page) part) room
+    opened-command z done h = h ∙ rw z
 
-module _ (port : ℕ) (numbered : Bool) where
-  pub guard-first : port ≡ 0 → not numbered ≡ eqb port 0 && not numbered
-  guard-first e = rw e
+module _ (numbered : Bool) (rights : Rights) (page : List ℕ) where
+  pub behind-number : numbered ≡ true → 0 ≡ denialOf pageAccess (rightsBehind numbered rights) page
+  behind-number e = rw e
 
-  pub guard-second : (port ≡ 0 → ⊥) → false ≡ eqb port 0 && not numbered
-  guard-second n = rw (ne-eqb port 0 n)
+  pub behind-none : numbered ≡ false → (r : ℕ) → r ≡ denialOf pageAccess rights page → r ≡ denialOf pageAccess (rightsBehind numbered rights) page
+  behind-none e r h = h ∙ rw e
 
 -- ---- any message
 
 -- What it was opened to is answered as the message.
-module _ (held chunk : List ℕ) (to port : ℕ) (good : Bool) (kind : ℕ) (ks : kind ≡ typeOf (held ++ chunk))
+module _ (held chunk : List ℕ) (to : ℕ) (rights : Rights) (good : Bool) (kind : ℕ) (ks : kind ≡ typeOf (held ++ chunk))
     (ps : drop 4 (take to (held ++ chunk)) ≡ payloadOf (held ++ chunk)) (w : Settings) (room page : List ℕ) where
   abbrev payload : List ℕ
   payload = drop 4 (take to (held ++ chunk))
@@ -259,42 +262,42 @@ module _ (held chunk : List ℕ) (to port : ℕ) (good : Bool) (kind : ℕ) (ks 
   abbrev placedOpening : Opening → Placed
   placedOpening z =
       placed (record { end = 4; saved = z .opened .numbered; settings = w })
-      (openedOutcome port (z .opened) (record { settings = w; page = z .page }) (drop (z .opened .from) (take to (held ++ chunk)))) room
+      (openedOutcome rights (z .opened) (record { settings = w; page = z .page }) (drop (z .opened .from) (take to (held ++ chunk)))) room
 
   abbrev answered : Outcome (List ℕ) → Placed
   answered o = placed (record { end = 4; saved = false; settings = w }) o room
 
   number-answered : (n : ℕ) → placedOpening (numberOpening n kind payload page) ≡ answered (numberedOn pageAccess n (record { settings = w; page = page }) payload)
-  number-answered zero = rw (and-false (eqb port 0), inner-payload held chunk to)
+  number-answered zero = rw (inner-payload held chunk to)
   number-answered (suc n) = rw (inner-payload held chunk to)
 
-  pub opening-answered : (o : Opened) (next : List ℕ) → record { opened = o; page = next } ≡ openingOf good kind payload page
-      → placedOpening (record { opened = o; page = next }) ≡ answered (messageOutcome pageAccess port (record { settings = w; page = page }) (receivedOf good (held ++ chunk)))
+  pub opening-answered : (o : Opened) (next : List ℕ) → record { opened = o; page = next } ≡ openingOf rights good kind payload page
+      → placedOpening (record { opened = o; page = next }) ≡ answered (messageOutcome pageAccess rights (record { settings = w; page = page }) (receivedOf good (held ++ chunk)))
   unfolding openingOf messageOutcome receivedOf numberedOutcome
   opening-answered o next e = ap placedOpening e ∙ rw (← ks, ← ps) (go (not good) (eqb kind numberedKind))
     where
       go : (a b : Bool)
-          → placedOpening (cond a (opening 1 kind 4 false page) (cond b (numberOpening (numberError (numberOn page) payload) kind payload page) (opening 0 kind 4 false page)))
+          → placedOpening (cond a (opening 1 kind 4 false page) (cond b (numberOpening (numberError rights (numberOn page) payload) kind payload page) (opening 0 kind 4 false page)))
           ≡ answered (cond a (refusedOutcome (getD payload 0 0) 1 (record { settings = w; page = page }))
-          (cond b (numberedOn pageAccess (numberError (numberOn page) payload) (record { settings = w; page = page }) payload)
-          (commandOutcome pageAccess (eqb port 0) (record { settings = w; page = page }) kind payload)))
+          (cond b (numberedOn pageAccess (numberError rights (numberOn page) payload) (record { settings = w; page = page }) payload)
+          (commandOutcome pageAccess rights (record { settings = w; page = page }) kind payload)))
       go true b = refl
-      go false true = number-answered (numberError (numberOn page) payload)
-      go false false = rw (and-true (eqb port 0))
+      go false true = number-answered (numberError rights (numberOn page) payload)
+      go false false = refl
 
 -- ---- the answer
 
-module _ (port : ℕ) (m : List ℕ) (good : Bool) (w : Settings) (room page : List ℕ) where
-  pub answer-small : length room < 166 → record { answer = record { saved = false; settings = w }; room = room; page = page } ≡ answering port (receivedOf good m) w room page
+module _ (rights : Rights) (m : List ℕ) (good : Bool) (w : Settings) (room page : List ℕ) where
+  pub answer-small : length room < 166 → record { answer = record { saved = false; settings = w }; room = room; page = page } ≡ answering rights (receivedOf good m) w room page
   unfolding answering
   answer-small h = rw (lt-ltb (length room) 166 h)
 
   module _ (large : 166 ≤ length room) (kind : ℕ) (ks : kind ≡ typeOf m) where
     abbrev outcome : Outcome (List ℕ)
-    outcome = messageOutcome pageAccess port (record { settings = w; page = page }) (receivedOf good m)
+    outcome = messageOutcome pageAccess rights (record { settings = w; page = page }) (receivedOf good m)
 
     few-rows : length (outcome .rows) ≤ 160
-    few-rows = message-most pageAccess port (record { settings = w; page = page }) (receivedOf good m)
+    few-rows = message-most pageAccess rights (record { settings = w; page = page }) (receivedOf good m)
 
     module _ (p : Progress) (mid next : List ℕ) (q : record { done = p; room = mid; page = next } ≡ placed (record { end = 4; saved = false; settings = w }) outcome room) where
       pub answer-ready : (4 ≤ p .end) × (p .end < 260) × (p .end + 2 ≤ length mid)
@@ -305,7 +308,7 @@ module _ (port : ℕ) (m : List ℕ) (good : Bool) (w : Settings) (room page : L
           (omega arith, omega arith, omega arith)
 
       pub answer-done : (a : Answer) → a ≡ record { saved = p .saved; settings = p .settings } → (after : List ℕ) → after ≡ sealing kind (p .end - 4) mid .room
-          → record { answer = a; room = after; page = next } ≡ answering port (receivedOf good m) w room page
+          → record { answer = a; room = after; page = next } ≡ answering rights (receivedOf good m) w room page
       unfolding answering receivedOf
       answer-done a at after left =
           let z : 4 + length (outcome .rows) - 4 ≡ length (outcome .rows) = omega arith in

@@ -12,6 +12,7 @@ use Rattle.stream.proofs.Bools.{differ}
 use Rattle.message.specs.Fields.{Field, fieldBytes, fieldsOf}
 use Rattle.message.specs.Whole.{refuse}
 use Rattle.message.proofs.FieldRows.{fields-fill, fields-back}
+use Rattle.command.specs.Rights.{allRights}
 use Rattle.command.specs.Command.{commandOf, subjectOf}
 use Rattle.command.specs.Errors.{isUnknown, fieldWrong, fieldError, fieldsRefused, isKind, commandError}
 use Rattle.command.specs.Numbers.{numberedKind}
@@ -45,12 +46,12 @@ module _ {P : Type 0} (access : Access P) (x : State P) where
       unfolding commandError
       passes = rw (k, field-alone, some-bytes)
 
-      now-one : messageOutcome access 1 x alone ≡ fieldOutcome access false x (commandOf kind f)
+      now-one : messageOutcome access allRights x alone ≡ fieldOutcome access allRights x (commandOf kind f)
       unfolding messageOutcome commandOutcome fieldsOutcome
-      now-one = rw (g, known-kind kind k, passes, field-alone) (then-idle access (fieldOutcome access false x (commandOf kind f)))
+      now-one = rw (g, known-kind kind k, passes, field-alone) (then-idle access (fieldOutcome access allRights x (commandOf kind f)))
 
       -- Where the value is on this board, the error is the same; where it is not and was accepted, it is 6.
-      error-now : fieldError false (access .loaded (x .page)) (commandOf kind f)
+      error-now : fieldError 0 (access .loaded (x .page)) (commandOf kind f)
           ≡ refuse (isUnknown (subjectOf kind (f .code))) 3 (refuse (fieldWrong (subjectOf kind (f .code)) (commandOf kind f)) 4 (refuse (notOnBoardIn access x alone) 6 0))
       unfolding fieldError commandOf
       error-now = refl
@@ -59,14 +60,14 @@ module _ {P : Type 0} (access : Access P) (x : State P) where
       unfolding errorBefore commandOf
       error-then = rw (g, k, some-bytes, long, filled)
 
-      before-one : notOnBoardIn access x alone ≡ false → outcomeBefore access x alone ≡ fieldOutcome access false x (commandOf kind f)
+      before-one : notOnBoardIn access x alone ≡ false → outcomeBefore access x alone ≡ fieldOutcome access allRights x (commandOf kind f)
       unfolding outcomeBefore fieldOutcome commandOf
       before-one o =
-          let same : errorBefore alone ≡ fieldError false (access .loaded (x .page)) (commandOf kind f) = error-then ∙ sym (error-now ∙ rw o) in
+          let same : errorBefore alone ≡ fieldError 0 (access .loaded (x .page)) (commandOf kind f) = error-then ∙ sym (error-now ∙ rw o) in
           rw same
 
       -- Where there was an error, it is the same.
-      before-refused : (errorBefore alone ≡ 0 → ⊥) → outcomeBefore access x alone ≡ fieldOutcome access false x (commandOf kind f)
+      before-refused : (errorBefore alone ≡ 0 → ⊥) → outcomeBefore access x alone ≡ fieldOutcome access allRights x (commandOf kind f)
       unfolding outcomeBefore fieldOutcome commandOf
       before-refused n = rw (error-then ∙ sym (error-now ∙ same (isUnknown (subjectOf kind (f .code))) (fieldWrong (subjectOf kind (f .code)) (commandOf kind f)) (λ z. n (error-then ∙ z))))
         where
@@ -75,15 +76,15 @@ module _ {P : Type 0} (access : Access P) (x : State P) where
           same false true n = refl
           same false false n = absurd (n refl)
 
-      both-right : notOnBoardIn access x alone ≡ false → messageOutcome access 1 x alone ≡ outcomeBefore access x alone
+      both-right : notOnBoardIn access x alone ≡ false → messageOutcome access allRights x alone ≡ outcomeBefore access x alone
       both-right o = now-one ∙ sym (before-one o)
 
-      six-now : notOnBoardIn access x alone ≡ true → errorBefore alone ≡ 0 → messageOutcome access 1 x alone ≡ rowOutcome (f .code) 6 (idle x)
+      six-now : notOnBoardIn access x alone ≡ true → errorBefore alone ≡ 0 → messageOutcome access allRights x alone ≡ rowOutcome (f .code) 6 (idle x)
       unfolding fieldOutcome commandOf
       six-now o z =
           let three = none-refused (isUnknown (subjectOf kind (f .code))) 2 _ (sym error-then ∙ z) in
           let four = none-refused (fieldWrong (subjectOf kind (f .code)) (commandOf kind f)) 3 0 (three .1) in
-          let six : fieldError false (access .loaded (x .page)) (commandOf kind f) ≡ 6 = error-now ∙ rw (three .0, four .0, o) in
+          let six : fieldError 0 (access .loaded (x .page)) (commandOf kind f) ≡ 6 = error-now ∙ rw (three .0, four .0, o) in
           now-one ∙ rw six
 
   -- ---- sums wrong, another type
@@ -91,16 +92,16 @@ module _ {P : Type 0} (access : Access P) (x : State P) where
   abbrev NotNumbered : Received → Type 0
   NotNumbered m = m .kind ≡ numberedKind → ⊥
 
-  damaged : (m : Received) → m .good ≡ false → messageOutcome access 1 x m ≡ outcomeBefore access x m
+  damaged : (m : Received) → m .good ≡ false → messageOutcome access allRights x m ≡ outcomeBefore access x m
   unfolding messageOutcome outcomeBefore errorBefore
   damaged m g = rw g
 
-  other : (m : Received) → NotNumbered m → m .good ≡ true → isKind (m .kind) ≡ false → messageOutcome access 1 x m ≡ outcomeBefore access x m
+  other : (m : Received) → NotNumbered m → m .good ≡ true → isKind (m .kind) ≡ false → messageOutcome access allRights x m ≡ outcomeBefore access x m
   unfolding messageOutcome commandOutcome commandError outcomeBefore errorBefore
   other m n g k = rw (g, ne-eqb (m .kind) numberedKind n, k)
 
   early : (m : Received) → NotNumbered m → (g k : Bool) → m .good ≡ g → isKind (m .kind) ≡ k → not g || not k ≡ true
-      → messageOutcome access 1 x m ≡ outcomeBefore access x m
+      → messageOutcome access allRights x m ≡ outcomeBefore access x m
   early m n false k gs ks e = damaged m gs
   early m n true false gs ks e = other m n gs ks
   early m n true true gs ks e = differ (sym e)
@@ -116,19 +117,19 @@ module _ {P : Type 0} (access : Access P) (x : State P) where
 
     -- Any sums and type, from good ones.
     from-good : ((gs : m .good ≡ true) (ks : isKind (m .kind) ≡ true)
-        → messageOutcome access 1 x (alone (m .good) (m .kind) f (r .1)) ≡ outcomeBefore access x (alone (m .good) (m .kind) f (r .1)))
-        → messageOutcome access 1 x m ≡ outcomeBefore access x m
+        → messageOutcome access allRights x (alone (m .good) (m .kind) f (r .1)) ≡ outcomeBefore access x (alone (m .good) (m .kind) f (r .1)))
+        → messageOutcome access allRights x m ≡ outcomeBefore access x m
     from-good b = go (m .good) (isKind (m .kind)) refl refl
       where
-        go : (g k : Bool) → m .good ≡ g → isKind (m .kind) ≡ k → messageOutcome access 1 x m ≡ outcomeBefore access x m
+        go : (g k : Bool) → m .good ≡ g → isKind (m .kind) ≡ k → messageOutcome access allRights x m ≡ outcomeBefore access x m
         go false k gs ks = damaged m gs
         go true false gs ks = other m n gs ks
-        go true true gs ks = ap (messageOutcome access 1 x) (sym q) ∙ b gs ks ∙ ap (outcomeBefore access x) q
+        go true true gs ks = ap (messageOutcome access allRights x) (sym q) ∙ b gs ks ∙ ap (outcomeBefore access x) q
 
-    one-field : notOnBoardIn access x m ≡ false → messageOutcome access 1 x m ≡ outcomeBefore access x m
+    one-field : notOnBoardIn access x m ≡ false → messageOutcome access allRights x m ≡ outcomeBefore access x m
     one-field o = from-good (λ gs ks. both-right (m .good) (m .kind) f (r .1) gs ks (subst (λ (l : Received). notOnBoardIn access x l ≡ false) (sym q) o))
 
-    refused-before : (errorBefore m ≡ 0 → ⊥) → messageOutcome access 1 x m ≡ outcomeBefore access x m
+    refused-before : (errorBefore m ≡ 0 → ⊥) → messageOutcome access allRights x m ≡ outcomeBefore access x m
     refused-before e =
         from-good (λ gs ks. now-one (m .good) (m .kind) f (r .1) gs ks ∙ sym (before-refused (m .good) (m .kind) f (r .1) gs ks (λ z. e (ap errorBefore (sym q) ∙ z))))
 
@@ -140,17 +141,17 @@ module _ {P : Type 0} (access : Access P) (x : State P) where
         let two = none-refused (not (isKind (m .kind))) 1 _ (one .1) in
         (not-false (m .good) (one .0), not-false (isKind (m .kind)) (two .0))
 
-    not-on-board : notOnBoardIn access x m ≡ true → errorBefore m ≡ 0 → messageOutcome access 1 x m ≡ rowOutcome (getD (m .payload) 0 0) 6 (idle x)
+    not-on-board : notOnBoardIn access x m ≡ true → errorBefore m ≡ 0 → messageOutcome access allRights x m ≡ rowOutcome (getD (m .payload) 0 0) 6 (idle x)
     not-on-board o z =
         let p = passed z in
         let b = six-now (m .good) (m .kind) f (r .1) (p .0) (p .1) (subst (λ (l : Received). notOnBoardIn access x l ≡ true) (sym q) o) (ap errorBefore q ∙ z) in
-        ap (messageOutcome access 1 x) (sym q) ∙ b ∙ ap (λ (l : List ℕ). rowOutcome (getD l 0 0) 6 (idle x)) (r .0)
+        ap (messageOutcome access allRights x) (sym q) ∙ b ∙ ap (λ (l : List ℕ). rowOutcome (getD l 0 0) 6 (idle x)) (r .0)
 
-  no-field : (m : Received) → NotNumbered m → m .payload ≡ [] → messageOutcome access 1 x m ≡ outcomeBefore access x m
+  no-field : (m : Received) → NotNumbered m → m .payload ≡ [] → messageOutcome access allRights x m ≡ outcomeBefore access x m
   unfolding messageOutcome commandOutcome commandError outcomeBefore errorBefore
   no-field m n e = go (m .good) (isKind (m .kind)) refl refl
     where
-      go : (g k : Bool) → m .good ≡ g → isKind (m .kind) ≡ k → messageOutcome access 1 x m ≡ outcomeBefore access x m
+      go : (g k : Bool) → m .good ≡ g → isKind (m .kind) ≡ k → messageOutcome access allRights x m ≡ outcomeBefore access x m
       go false k gs ks = damaged m gs
       go true false gs ks = other m n gs ks
       go true true gs ks = rw (gs, known-kind (m .kind) ks, ks, e)
@@ -166,7 +167,7 @@ module _ {P : Type 0} (access : Access P) (x : State P) where
         go [] n = differ (sym n)
         go (b ∷ bs) n = ne-eqb (length (b ∷ bs)) 0 (λ z. omega arith)
 
-    unfilled : messageOutcome access 1 x m ≡ rowOutcome (getD (m .payload) 0 0) 4 (idle x)
+    unfilled : messageOutcome access allRights x m ≡ rowOutcome (getD (m .payload) 0 0) 4 (idle x)
     unfolding messageOutcome commandOutcome commandError
     unfilled = rw (g, known-kind (m .kind) k, k, some-bytes-there, e)
 

@@ -1,4 +1,4 @@
--- The tables of requests 02, 03 and 05, computed.
+-- The tables of requests 02, 03, 05 and 12, computed.
 use mathlib.Core.Path.{refl}
 use Rattle.page.specs.Settings.{settingOf, usable, storable}
 use Rattle.page.specs.Page.{allStorable, writing, factoryPage}
@@ -14,6 +14,7 @@ use Rattle.command.specs.Handle.{commandOutcome, numberedOutcome, messag
 use Rattle.command.specs.Answer.{lookedUp, loadedFrom}
 use Rattle.command.specs.Examples.{ExampleLines}
 use Rattle.command.specs.Older.{OlderLines}
+use Rattle.command.specs.ReadonlyExamples.{ReadonlyLines}
 
 pub example-lines : ExampleLines
 unfolding settingOf usable storable allStorable writing factoryPage entryFrom entryOf partOf bodyOf heldUnder valuesIn pageWriting fieldsOf commandOf subjectOf fieldWrong fieldError commandError numberError fieldOutcome fieldsOutcome commandOutcome numberedOutcome messageOutcome lookedUp loadedFrom startSettings
@@ -22,3 +23,7 @@ example-lines = refl
 pub older-lines : OlderLines
 unfolding settingOf usable storable allStorable writing factoryPage entryFrom entryOf partOf bodyOf heldUnder valuesIn pageWriting fieldsOf commandOf subjectOf fieldWrong fieldError commandError numberError fieldOutcome fieldsOutcome commandOutcome numberedOutcome messageOutcome lookedUp loadedFrom startSettings sound
 older-lines = record { sound-page = refl; lines = refl }
+
+pub readonly-lines : ReadonlyLines
+unfolding settingOf usable storable allStorable writing factoryPage entryFrom entryOf partOf bodyOf heldUnder valuesIn pageWriting fieldsOf commandOf subjectOf fieldWrong fieldError commandError numberError fieldOutcome fieldsOutcome commandOutcome numberedOutcome messageOutcome lookedUp loadedFrom startSettings
+readonly-lines = refl

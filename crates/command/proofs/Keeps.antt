@@ -75,10 +75,10 @@ module _ (loaded : Setting → Stored) (w : Settings) (c : Command) where
 
 pub keeps-usable : KeepsUsable
 unfolding effectOf
-keeps-usable needs loaded w c l e = go (fieldError needs loaded c) refl
+keeps-usable denial loaded w c l e = go (fieldError denial loaded c) refl
   where
-    go : (n : ℕ) → fieldError needs loaded c ≡ n → settingsUsable (effectOn n (fieldEffect (subjectOf (c .kind) (c .code)) loaded w c) w .settings) ≡ true
-    go zero p = let a = accepted needs loaded c p in field-keeps loaded w c (subjectOf (c .kind) (c .code)) (a .field .value) (a .on-board) l e
+    go : (n : ℕ) → fieldError denial loaded c ≡ n → settingsUsable (effectOn n (fieldEffect (subjectOf (c .kind) (c .code)) loaded w c) w .settings) ≡ true
+    go zero p = let a = accepted denial loaded c p in field-keeps loaded w c (subjectOf (c .kind) (c .code)) (a .field .value) (a .on-board) l e
     go (suc n) p = e
 
 start-usable : (s : Setting) (o : Stored) → ((x : ℕ) → o ≡ Value x → usable s x ≡ true) → usable s (valueOr o (factoryValue s)) ≡ true
@@ -117,10 +117,10 @@ field-saves Unknown loaded w c t e = let z : _≡_ {A = ℕ} 0 1 = cc in absurd 
 
 pub saves-only : SavesOnly
 unfolding effectOf
-saves-only needs loaded w c s e = go (fieldError needs loaded c) refl e
+saves-only denial loaded w c s e = go (fieldError denial loaded c) refl e
   where
-    go : (n : ℕ) → fieldError needs loaded c ≡ n → effectOn n (fieldEffect (subjectOf (c .kind) (c .code)) loaded w c) w .saves ≡ some s
-        → SaveOf needs loaded c s
+    go : (n : ℕ) → fieldError denial loaded c ≡ n → effectOn n (fieldEffect (subjectOf (c .kind) (c .code)) loaded w c) w .saves ≡ some s
+        → SaveOf denial loaded c s
     go zero p q =
         let f = field-saves (subjectOf (c .kind) (c .code)) loaded w c s q in
         record { no-error = p; about = f .0; function = f .1 }
@@ -131,4 +131,4 @@ saved-function f loaded w s x e = rw e
 
 pub saves-then : SavesThen
 unfolding effectOf
-saves-then needs loaded w c s h = rw (h .no-error, h .about) (saved-function (c .function) loaded w s (valueFor s c) (h .function))
+saves-then denial loaded w c s h = rw (h .no-error, h .about) (saved-function (c .function) loaded w s (valueFor s c) (h .function))

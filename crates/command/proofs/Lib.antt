@@ -8,6 +8,7 @@ pub mod Numbers
 pub mod Pages
 pub mod Payloads
 pub mod Places
+pub mod Readonly
 pub mod Rests
 pub mod Rows
 pub mod Separate
@@ -15,3 +16,4 @@ pub mod Spends
 pub mod Subjects
 pub mod Tests
 pub mod Turns
+pub mod Unprofiled

@@ -2,38 +2,40 @@
 use Prim.Native.Nat.{ℕ, zero, suc, _≤_, _<_}
 use native.Mathlib.Omega.{arith}
 use mathlib.Core.Path.{_≡_, refl, sym, ap, subst, _∙_}
-use mathlib.Core.Bool.{Bool, true, false, _&&_, _||_, not, cond, and-false}
+use mathlib.Core.Bool.{Bool, true, false, _&&_, not, cond}
 use mathlib.Core.List.{List, [], _∷_}
 use mathlib.Core.Option.{Option, none, some}
 use lib.Dec.{eqb, leb}
 use lib.ListN.{length, getD}
-use borrow.Author.Tests.{ne-eqb, eqb-true, le-ltb, lt-ltb, leb-true, leb-false, not-false}
+use borrow.Author.Tests.{ne-eqb, le-ltb, lt-ltb, leb-true, leb-false}
 use Rattle.page.specs.declared.setting.Setting.{Setting}
 use Rattle.page.specs.declared.setting.Setting.the-variants.{Baud, Accelerometer, Gyroscope}
 use Rattle.page.specs.declared.setting.Stored.{Stored}
 use Rattle.page.specs.declared.setting.Stored.the-variants.{Absent, Value}
 use Rattle.page.specs.declared.setting.Values.{Values}
 use Rattle.page.specs.Settings.{lastNumber, keyStorable}
-use Rattle.page.specs.Page.{withValue, allStorable, writing, pageSize}
+use Rattle.page.specs.Page.{isThere, withValue, allStorable, writing, pageSize}
 use Rattle.page.specs.Lookup.{valuesIn}
 use Rattle.page.specs.Sound.{sound, refuseWriting, pageWriting}
 use Rattle.page.proofs.Pages.{read-back, put-keeps}
 use Rattle.message.specs.Fields.{fieldsOf}
 use Rattle.message.specs.Whole.{refuse}
-use Rattle.command.specs.declared.settings.Settings.{Settings}
+use Rattle.command.specs.declared.rights.Rights.{Rights}
 use Rattle.command.specs.declared.command.Command.{Command}
-use Rattle.command.specs.declared.command.Subject.{Subject}
-use Rattle.command.specs.declared.command.Subject.the-variants.{Ping, Setting as About, Unknown}
-use Rattle.command.specs.Command.{subjectOf, commandsOf}
-use Rattle.command.specs.Errors.{isUnknown, isFunction, sizeRight, valueRight, fieldWrong, notOnBoard, alters, fieldError, commandError}
+use Rattle.command.specs.Rights.{allRights, guardedRights}
+use Rattle.command.specs.Command.{commandsOf}
+use Rattle.command.specs.Errors.{commandError}
 use Rattle.command.specs.Numbers.{numberedKind, numberOf, innerKind, innerPayload, isFresh, numberError}
-use Rattle.command.specs.Effects.{workingValue, Effect, fieldEffect, effectOn, effectOf}
-use Rattle.command.specs.Outcome.{Access, State, Outcome, Received, thenOutcome, pageAfter, needsNumber, fieldOutcome, fieldsOutcome}
+use Rattle.command.specs.Effects.{workingValue, effectOf}
+use Rattle.command.specs.Outcome.{Access, State, Outcome, Received, thenOutcome, pageAfter, denialOf, fieldOutcome, fieldsOutcome}
 use Rattle.command.specs.Handle.{fieldsIn, refusedOutcome, commandOn, commandOutcome, marked, spent, numberedOutcome, messageOutcome}
 use Rattle.command.specs.Answer.{loadedFrom, savedOn, spentOn, numberOn, pageAccess}
-use Rattle.command.specs.Numbered.{carried, keptOn, carriesFresh, NumberHandles, NumberKept, WithoutNumber, Unchanged, PortZeroGuarded}
-use Rattle.stream.proofs.Bools.{and-both, or-neither}
+use Rattle.command.specs.Numbered.{carried, allowedNumber, keptOn, carriesFresh, NumberHandles, NumberKept, WithoutNumber, Unchanged, NumberGuards}
+use Rattle.command.specs.Place.{fieldsWith}
+use Rattle.command.specs.Readonly.{Leaves}
+use Rattle.stream.proofs.Bools.{and-both}
 use Rattle.command.proofs.Pages.{number-small, page-changes}
+use Rattle.command.proofs.Readonly.{command-leaves}
 use Rattle.command.proofs.Separate.{is-command}
 
 -- ---- a message that carries a number
@@ -56,45 +58,50 @@ carries m n e = go (m .good && eqb (m .kind) numberedKind && leb 5 (length (m .p
         record { good = q .0; numbered = q .1; long = leb-true 5 (length (m .payload)) (p .1); number = cc }
     go false t e = let z : _≡_ {A = ℕ} 0 1 = cc in absurd (omega arith)
 
-module _ {P : Type 0} (access : Access P) (x : State P) where
+module _ {P : Type 0} (access : Access P) (rights : Rights) (x : State P) where
   abbrev last : Stored
   last = access .lastNumber (x .page)
 
-  module _ (payload : List ℕ) (long : 5 ≤ length payload) where
+  numbered-not-allowed : (payload : List ℕ) → rights .readonly ≡ true → numberedOutcome access rights x payload ≡ refusedOutcome (getD (innerPayload payload) 0 0) 7 x
+  unfolding numberedOutcome numberError
+  numbered-not-allowed payload o = rw o
+
+  module _ (payload : List ℕ) (o : rights .readonly ≡ false) (long : 5 ≤ length payload) where
     numbered-fresh : isFresh last (numberOf payload) ≡ true
-        → numberedOutcome access x payload ≡ marked (commandOutcome access false (spent access x (numberOf payload)) (innerKind payload) (innerPayload payload))
+        → numberedOutcome access rights x payload ≡ marked (commandOutcome access allRights (spent access x (numberOf payload)) (innerKind payload) (innerPayload payload))
     unfolding numberedOutcome numberError
-    numbered-fresh f = rw (le-ltb (length payload) 5 long, f)
+    numbered-fresh f = rw (o, le-ltb (length payload) 5 long, f)
 
-    numbered-stale : isFresh last (numberOf payload) ≡ false → numberedOutcome access x payload ≡ refusedOutcome (getD (innerPayload payload) 0 0) 5 x
+    numbered-stale : isFresh last (numberOf payload) ≡ false → numberedOutcome access rights x payload ≡ refusedOutcome (getD (innerPayload payload) 0 0) 5 x
     unfolding numberedOutcome numberError
-    numbered-stale f = rw (le-ltb (length payload) 5 long, f)
+    numbered-stale f = rw (o, le-ltb (length payload) 5 long, f)
 
-  is-numbered : (port : ℕ) (m : Received) → m .good ≡ true → eqb (m .kind) numberedKind ≡ true
-      → messageOutcome access port x m ≡ numberedOutcome access x (m .payload)
+  is-numbered : (m : Received) → m .good ≡ true → eqb (m .kind) numberedKind ≡ true
+      → messageOutcome access rights x m ≡ numberedOutcome access rights x (m .payload)
   unfolding messageOutcome
-  is-numbered port m g k = rw (g, k)
+  is-numbered m g k = rw (g, k)
 
 -- A type 7C inside is none.
 in-itself : {P : Type 0} (access : Access P) (x : State P) (kind : ℕ) (payload : List ℕ) → kind ≡ numberedKind
-    → commandOutcome access false x kind payload ≡ refusedOutcome (getD payload 0 0) 2 x
+    → commandOutcome access allRights x kind payload ≡ refusedOutcome (getD payload 0 0) 2 x
 unfolding commandOutcome commandError
 in-itself access x kind payload k = rw k
 
 pub number-handles : NumberHandles
-number-handles P access port x m n e =
+number-handles P access rights x m n e =
     record {
-      fresh = λ f k. to ∙ numbered-fresh access x (m .payload) (c .long) (rw (c .number) f) ∙ rw (c .number) (ap marked (sym (inner k)));
-      fresh-twice = λ f k. to ∙ numbered-fresh access x (m .payload) (c .long) (rw (c .number) f) ∙ rw (c .number) (ap marked (twice k));
-      stale = λ f. to ∙ numbered-stale access x (m .payload) (c .long) (rw (c .number) f);
-      mark = ap (λ (o : Outcome P). o .saved) to ∙ rw (← c .number) (mark (isFresh (last access x) (numberOf (m .payload))) refl);
+      fresh = λ o f k. to ∙ numbered-fresh access rights x (m .payload) o (c .long) (rw (c .number) f) ∙ rw (c .number) (ap marked (sym (inner k)));
+      fresh-twice = λ o f k. to ∙ numbered-fresh access rights x (m .payload) o (c .long) (rw (c .number) f) ∙ rw (c .number) (ap marked (twice k));
+      stale = λ o f. to ∙ numbered-stale access rights x (m .payload) o (c .long) (rw (c .number) f);
+      not-allowed = λ o. to ∙ numbered-not-allowed access rights x (m .payload) o;
+      mark = ap (λ (o : Outcome P). o .saved) to ∙ rw (← c .number) (mark (rights .readonly) (isFresh (last access rights x) (numberOf (m .payload))) refl refl);
     }
   where
     c : Carries m n
     c = carries m n e
 
-    to : messageOutcome access port x m ≡ numberedOutcome access x (m .payload)
-    to = is-numbered access x port m (c .good) (c .numbered)
+    to : messageOutcome access rights x m ≡ numberedOutcome access rights x (m .payload)
+    to = is-numbered access rights x m (c .good) (c .numbered)
 
     kind : ℕ
     kind = innerKind (m .payload)
@@ -103,17 +110,18 @@ number-handles P access port x m n e =
     payload = innerPayload (m .payload)
 
     inner : (kind ≡ numberedKind → ⊥)
-        → messageOutcome access 1 (spent access x n) (record { good = true; kind = kind; payload = payload })
-        ≡ commandOutcome access false (spent access x n) kind payload
-    inner k = is-command access 1 (spent access x n) kind payload (ne-eqb kind numberedKind k)
+        → messageOutcome access allRights (spent access x n) (record { good = true; kind = kind; payload = payload })
+        ≡ commandOutcome access allRights (spent access x n) kind payload
+    inner k = is-command access allRights (spent access x n) kind payload (ne-eqb kind numberedKind k)
 
-    twice : kind ≡ numberedKind → commandOutcome access false (spent access x n) kind payload ≡ refusedOutcome (getD payload 0 0) 2 (spent access x n)
+    twice : kind ≡ numberedKind → commandOutcome access allRights (spent access x n) kind payload ≡ refusedOutcome (getD payload 0 0) 2 (spent access x n)
     twice k = in-itself access (spent access x n) kind payload k
 
-    mark : (b : Bool) → isFresh (last access x) (numberOf (m .payload)) ≡ b
-        → numberedOutcome access x (m .payload) .saved ≡ isFresh (last access x) (numberOf (m .payload))
-    mark true f = rw (numbered-fresh access x (m .payload) (c .long) f, f)
-    mark false f = rw (numbered-stale access x (m .payload) (c .long) f, f)
+    mark : (r b : Bool) → rights .readonly ≡ r → isFresh (last access rights x) (numberOf (m .payload)) ≡ b
+        → numberedOutcome access rights x (m .payload) .saved ≡ not (rights .readonly) && isFresh (last access rights x) (numberOf (m .payload))
+    mark true b o f = rw (numbered-not-allowed access rights x (m .payload) o, o)
+    mark false true o f = rw (numbered-fresh access rights x (m .payload) o (c .long) f, o, f)
+    mark false false o f = rw (numbered-stale access rights x (m .payload) o (c .long) f, o, f)
 
 -- ---- the number that the page keeps
 
@@ -143,165 +151,135 @@ put-number page n h l =
     let k : keyStorable lastNumber n ≡ true = lt-ltb n 4294967296 l in
     ap numberOn (page-changes page lastNumber n h k .put-page) ∙ ap (λ (v : Values). v .number) (put-keeps page lastNumber n h k .values)
 
-module _ (guarded : Bool) where
-  pub field-keeps-number : (x : State (List ℕ)) (c : Command) → numberOn (fieldOutcome pageAccess guarded x c .next .page) ≡ numberOn (x .page)
+module _ (rights : Rights) where
+  pub field-keeps-number : (x : State (List ℕ)) (c : Command) → numberOn (fieldOutcome pageAccess rights x c .next .page) ≡ numberOn (x .page)
   unfolding fieldOutcome effectOf
-  field-keeps-number x c = go (effectOf (needsNumber pageAccess guarded (x .page)) (loadedFrom (x .page)) (x .settings) c .saves)
+  field-keeps-number x c = go (effectOf (denialOf pageAccess rights (x .page)) (loadedFrom (x .page)) (x .settings) c .saves)
     where
       go : (saves : Option Setting) → numberOn (pageAfter savedOn saves (x .settings) (x .page)) ≡ numberOn (x .page)
       go none = refl
       go (some s) = save-keeps-number (x .page) s (workingValue (x .settings) s)
 
-  fields-keep-number : (x : State (List ℕ)) (cs : List Command) → numberOn (fieldsOutcome pageAccess guarded x cs .next .page) ≡ numberOn (x .page)
+  -- So one look at the number serves all fields.
+  pub fields-denied : (x : State (List ℕ)) (cs : List Command) → fieldsOutcome pageAccess rights x cs ≡ fieldsWith (denialOf pageAccess rights (x .page)) x cs
+  unfolding fieldsOutcome fieldsWith fieldOutcome
+  fields-denied x [] = refl
+  fields-denied x (c ∷ cs) =
+      let o = fieldOutcome pageAccess rights x c in
+      let same : denialOf pageAccess rights (o .next .page) ≡ denialOf pageAccess rights (x .page) =
+      ap (λ (n : Stored). refuse (rights .readonly) 7 (refuse (rights .guarded && isThere n) 5 0)) (field-keeps-number x c) in
+      ap (thenOutcome o) (fields-denied (o .next) cs ∙ ap (λ (d : ℕ). fieldsWith d (o .next) cs) same)
+
+  fields-keep-number : (x : State (List ℕ)) (cs : List Command) → numberOn (fieldsOutcome pageAccess rights x cs .next .page) ≡ numberOn (x .page)
   unfolding fieldsOutcome
   fields-keep-number x [] = refl
-  fields-keep-number x (c ∷ cs) = fields-keep-number (fieldOutcome pageAccess guarded x c .next) cs ∙ field-keeps-number x c
+  fields-keep-number x (c ∷ cs) = fields-keep-number (fieldOutcome pageAccess rights x c .next) cs ∙ field-keeps-number x c
 
   pub command-keeps-number : (x : State (List ℕ)) (kind : ℕ) (payload : List ℕ)
-      → numberOn (commandOutcome pageAccess guarded x kind payload .next .page) ≡ numberOn (x .page)
+      → numberOn (commandOutcome pageAccess rights x kind payload .next .page) ≡ numberOn (x .page)
   unfolding commandOutcome
   command-keeps-number x kind payload = go (commandError kind payload)
     where
-      go : (n : ℕ) → numberOn (commandOn pageAccess n guarded x kind payload .next .page) ≡ numberOn (x .page)
+      go : (n : ℕ) → numberOn (commandOn pageAccess n rights x kind payload .next .page) ≡ numberOn (x .page)
       go zero = fields-keep-number x (commandsOf kind (fieldsIn (fieldsOf payload)))
       go (suc n) = refl
 
-module _ (x : State (List ℕ)) (payload : List ℕ) where
-  numbered-keeps : sound (x .page) ≡ true → 5 ≤ length payload
-      → numberOn (numberedOutcome pageAccess x payload .next .page) ≡ keptOn (some (numberOf payload)) (numberOn (x .page))
-  numbered-keeps h l = go (isFresh (numberOn (x .page)) (numberOf payload)) refl
+none-allowed : (rights : Rights) → allowedNumber rights none ≡ none
+none-allowed rights = go (rights .readonly)
+  where
+    go : (r : Bool) → _≡_ {A = Option ℕ} (cond r none none) none
+    go true = refl
+    go false = refl
+
+module _ (rights : Rights) (x : State (List ℕ)) (payload : List ℕ) where
+  numbered-keeps : rights .readonly ≡ false → sound (x .page) ≡ true → 5 ≤ length payload
+      → numberOn (numberedOutcome pageAccess rights x payload .next .page) ≡ keptOn (some (numberOf payload)) (numberOn (x .page))
+  numbered-keeps o h l = go (isFresh (numberOn (x .page)) (numberOf payload)) refl
     where
       after : State (List ℕ)
       after = spent pageAccess x (numberOf payload)
 
       go : (b : Bool) → isFresh (numberOn (x .page)) (numberOf payload) ≡ b
-          → numberOn (numberedOutcome pageAccess x payload .next .page) ≡ keptOn (some (numberOf payload)) (numberOn (x .page))
+          → numberOn (numberedOutcome pageAccess rights x payload .next .page) ≡ keptOn (some (numberOf payload)) (numberOn (x .page))
       go true f =
-          rw (numbered-fresh pageAccess x payload l f, f)
-          (command-keeps-number false after (innerKind payload) (innerPayload payload) ∙ put-number (x .page) (numberOf payload) h (number-small payload))
-      go false f = rw (numbered-stale pageAccess x payload l f, f)
+          rw (numbered-fresh pageAccess rights x payload o l f, f)
+          (command-keeps-number allRights after (innerKind payload) (innerPayload payload) ∙ put-number (x .page) (numberOf payload) h (number-small payload))
+      go false f = rw (numbered-stale pageAccess rights x payload o l f, f)
 
-  numbered-short : leb 5 (length payload) ≡ false → numberOn (numberedOutcome pageAccess x payload .next .page) ≡ numberOn (x .page)
+  numbered-short : rights .readonly ≡ false → leb 5 (length payload) ≡ false → numberOn (numberedOutcome pageAccess rights x payload .next .page) ≡ numberOn (x .page)
   unfolding numberedOutcome numberError
-  numbered-short s = rw (lt-ltb (length payload) 5 (leb-false 5 (length payload) s))
+  numbered-short o s = rw (o, lt-ltb (length payload) 5 (leb-false 5 (length payload) s))
 
 pub number-kept : NumberKept
 unfolding messageOutcome carried
-number-kept port x m h =
+number-kept rights x m h =
     record {
       four-bytes = λ n e. rw (← carries m n e .number) (number-small (m .payload));
-      kept = kept (m .good) (eqb (m .kind) numberedKind) (leb 5 (length (m .payload))) refl refl refl;
+      kept = kept (m .good) (eqb (m .kind) numberedKind) (rights .readonly) (leb 5 (length (m .payload))) refl refl refl refl;
     }
   where
-    kept : (g k l : Bool) → m .good ≡ g → eqb (m .kind) numberedKind ≡ k → leb 5 (length (m .payload)) ≡ l
-        → numberOn (messageOutcome pageAccess port x m .next .page) ≡ keptOn (carried m) (numberOn (x .page))
-    kept false k l gs ks ls = rw gs
-    kept true false l gs ks ls = rw (gs, ks) (command-keeps-number (eqb port 0) x (m .kind) (m .payload))
-    kept true true false gs ks ls = rw (gs, ks, ls) (numbered-short x (m .payload) ls)
-    kept true true true gs ks ls = rw (gs, ks, ls) (numbered-keeps x (m .payload) h (leb-true 5 (length (m .payload)) ls))
+    kept : (g k r l : Bool) → m .good ≡ g → eqb (m .kind) numberedKind ≡ k → rights .readonly ≡ r → leb 5 (length (m .payload)) ≡ l
+        → numberOn (messageOutcome pageAccess rights x m .next .page) ≡ keptOn (allowedNumber rights (carried m)) (numberOn (x .page))
+    kept false k r l gs ks rs ls = rw (gs, none-allowed rights)
+    kept true false r l gs ks rs ls = rw (gs, ks, none-allowed rights) (command-keeps-number rights x (m .kind) (m .payload))
+    kept true true true l gs ks rs ls = rw (gs, ks, numbered-not-allowed pageAccess rights x (m .payload) rs, rs)
+    kept true true false false gs ks rs ls = rw (gs, ks, ls, none-allowed rights) (numbered-short rights x (m .payload) rs ls)
+    kept true true false true gs ks rs ls =
+        rw (gs, ks, ls)
+        (numbered-keeps rights x (m .payload) rs h (leb-true 5 (length (m .payload)) ls)
+        ∙ sym (ap (λ (r : Bool). keptOn (cond r none (some (numberOf (m .payload)))) (numberOn (x .page))) rs))
 
 -- ---- a page without a number
 
-module _ (guarded : Bool) where
-  field-unguarded : (x : State (List ℕ)) (c : Command) → numberOn (x .page) ≡ Absent → fieldOutcome pageAccess guarded x c ≡ fieldOutcome pageAccess false x c
-  unfolding fieldOutcome
-  field-unguarded x c e = rw (e, and-false guarded)
+field-unguarded : (x : State (List ℕ)) (c : Command) → numberOn (x .page) ≡ Absent → fieldOutcome pageAccess guardedRights x c ≡ fieldOutcome pageAccess allRights x c
+unfolding fieldOutcome
+field-unguarded x c e = rw e
 
-  fields-unguarded : (x : State (List ℕ)) (cs : List Command) → numberOn (x .page) ≡ Absent
-      → fieldsOutcome pageAccess guarded x cs ≡ fieldsOutcome pageAccess false x cs
-  unfolding fieldsOutcome
-  fields-unguarded x [] e = refl
-  fields-unguarded x (c ∷ cs) e =
-      let o = fieldOutcome pageAccess false x c in
-      let a : numberOn (o .next .page) ≡ Absent = field-keeps-number false x c ∙ e in
-      rw (field-unguarded x c e) (ap (thenOutcome o) (fields-unguarded (o .next) cs a))
+fields-unguarded : (x : State (List ℕ)) (cs : List Command) → numberOn (x .page) ≡ Absent
+    → fieldsOutcome pageAccess guardedRights x cs ≡ fieldsOutcome pageAccess allRights x cs
+unfolding fieldsOutcome
+fields-unguarded x [] e = refl
+fields-unguarded x (c ∷ cs) e =
+    let o = fieldOutcome pageAccess allRights x c in
+    let a : numberOn (o .next .page) ≡ Absent = field-keeps-number allRights x c ∙ e in
+    rw (field-unguarded x c e) (ap (thenOutcome o) (fields-unguarded (o .next) cs a))
 
-  command-unguarded : (x : State (List ℕ)) (kind : ℕ) (payload : List ℕ) → numberOn (x .page) ≡ Absent
-      → commandOutcome pageAccess guarded x kind payload ≡ commandOutcome pageAccess false x kind payload
-  unfolding commandOutcome
-  command-unguarded x kind payload e = go (commandError kind payload)
-    where
-      go : (n : ℕ) → commandOn pageAccess n guarded x kind payload ≡ commandOn pageAccess n false x kind payload
-      go zero = fields-unguarded x (commandsOf kind (fieldsIn (fieldsOf payload))) e
-      go (suc n) = refl
+command-unguarded : (x : State (List ℕ)) (kind : ℕ) (payload : List ℕ) → numberOn (x .page) ≡ Absent
+    → commandOutcome pageAccess guardedRights x kind payload ≡ commandOutcome pageAccess allRights x kind payload
+unfolding commandOutcome
+command-unguarded x kind payload e = go (commandError kind payload)
+  where
+    go : (n : ℕ) → commandOn pageAccess n guardedRights x kind payload ≡ commandOn pageAccess n allRights x kind payload
+    go zero = fields-unguarded x (commandsOf kind (fieldsIn (fieldsOf payload))) e
+    go (suc n) = refl
+
+numbered-unguarded : {P : Type 0} (access : Access P) (x : State P) (payload : List ℕ) → numberedOutcome access guardedRights x payload ≡ numberedOutcome access allRights x payload
+unfolding numberedOutcome numberError
+numbered-unguarded access x payload = refl
 
 pub without-number : WithoutNumber
 unfolding messageOutcome
-without-number port x m e = rw (command-unguarded (eqb port 0) x (m .kind) (m .payload) e)
+without-number x m e = rw (command-unguarded x (m .kind) (m .payload) e, numbered-unguarded pageAccess x (m .payload))
 
--- ---- a page with a number, on port 0
-
--- A field that needs a number leaves all as it is: it is refused, or it reads, or it is a Ping.
-module _ (loaded : Setting → Stored) (w : Settings) (c : Command) where
-  record Quiet (e : Effect) : Type 0 where
-    same-settings : e .settings ≡ w
-    no-save : e .saves ≡ none
-
-  reads-only : (s : Setting) → alters (About s) c ≡ false → fieldWrong (About s) c ≡ false → Quiet (fieldEffect (About s) loaded w c)
-  unfolding fieldWrong
-  reads-only s a r =
-      let sized : Bool = not (sizeRight (About s) c) in
-      let known : Bool = not (isFunction (c .function)) in
-      let o = or-neither (sized || known) (not (valueRight (About s) c)) r in
-      let right : isFunction (c .function) ≡ true = not-false (isFunction (c .function)) (or-neither sized known (o .0) .1) in
-      let b : not (eqb (c .function) 2) ≡ false = subst (λ (f : Bool). f && not (eqb (c .function) 2) ≡ false) right a in
-      let two : c .function ≡ 2 = eqb-true (c .function) 2 (not-false (eqb (c .function) 2) b) in
-      rw two (record { same-settings = refl; no-save = refl })
-
-  quiet : (subject : Subject) (n : ℕ)
-      → refuse (isUnknown subject) 3 (refuse (alters subject c) 5 (refuse (fieldWrong subject c) 4 (refuse (notOnBoard subject loaded c) 6 0))) ≡ n
-      → Quiet (effectOn n (fieldEffect subject loaded w c) w)
-  quiet subject (suc n) e = record { same-settings = refl; no-save = refl }
-  quiet Ping zero e = record { same-settings = refl; no-save = refl }
-  quiet Unknown zero e = record { same-settings = refl; no-save = refl }
-  quiet (About s) zero e = go (alters (About s) c) (fieldWrong (About s) c) refl refl e
-    where
-      go : (a r : Bool) → alters (About s) c ≡ a → fieldWrong (About s) c ≡ r
-          → refuse a 5 (refuse r 4 (refuse (notOnBoard (About s) loaded c) 6 0)) ≡ 0 → Quiet (fieldEffect (About s) loaded w c)
-      go true r as′ rs e = absurd (omega (arith, e))
-      go false true as′ rs e = absurd (omega (arith, e))
-      go false false as′ rs e = reads-only s as′ rs
-
-record Left (x : State (List ℕ)) (o : Outcome (List ℕ)) : Type 0 where
-  next : o .next ≡ x
-  unmarked : o .saved ≡ false
+-- ---- a page with a number, where one is needed
 
 module _ (kept : ℕ) where
-  field-left : (x : State (List ℕ)) (c : Command) → numberOn (x .page) ≡ Value kept → Left x (fieldOutcome pageAccess true x c)
-  unfolding fieldOutcome fieldError
-  field-left x c e =
-      let q = quiet (loadedFrom (x .page)) (x .settings) c (subjectOf (c .kind) (c .code)) (fieldError (needsNumber pageAccess true (x .page)) (loadedFrom (x .page)) c) (rw e) in
-      record { next = rw (q .same-settings, q .no-save); unmarked = rw (q .no-save) }
-
-  fields-left : (x : State (List ℕ)) (cs : List Command) → numberOn (x .page) ≡ Value kept → Left x (fieldsOutcome pageAccess true x cs)
-  unfolding fieldsOutcome
-  fields-left x [] e = record { next = refl; unmarked = refl }
-  fields-left x (c ∷ cs) e =
-      let f = field-left x c e in
-      let r = fields-left x cs e in
-      rw (f .next) (record { next = r .next; unmarked = rw (f .unmarked) (r .unmarked) })
-
-  command-left : (x : State (List ℕ)) (kind : ℕ) (payload : List ℕ) → numberOn (x .page) ≡ Value kept → Left x (commandOutcome pageAccess true x kind payload)
-  unfolding commandOutcome
-  command-left x kind payload e = go (commandError kind payload)
-    where
-      go : (n : ℕ) → Left x (commandOn pageAccess n true x kind payload)
-      go zero = fields-left x (commandsOf kind (fieldsIn (fieldsOf payload))) e
-      go (suc n) = record { next = refl; unmarked = refl }
+  command-left : (x : State (List ℕ)) (kind : ℕ) (payload : List ℕ) → numberOn (x .page) ≡ Value kept → Leaves x (commandOutcome pageAccess guardedRights x kind payload)
+  command-left x kind payload e = command-leaves pageAccess guardedRights x kind payload 4 (rw e)
 
   numbered-left : (x : State (List ℕ)) (payload : List ℕ) → numberOn (x .page) ≡ Value kept
-      → carriesFresh (Value kept) (cond (leb 5 (length payload)) (some (numberOf payload)) none) ≡ false → Left x (numberedOutcome pageAccess x payload)
+      → carriesFresh (Value kept) (cond (leb 5 (length payload)) (some (numberOf payload)) none) ≡ false → Leaves x (numberedOutcome pageAccess guardedRights x payload)
   unfolding numberedOutcome numberError
   numbered-left x payload e f = go (leb 5 (length payload)) refl f
     where
       go : (l : Bool) → leb 5 (length payload) ≡ l → carriesFresh (Value kept) (cond l (some (numberOf payload)) none) ≡ false
-          → Left x (numberedOutcome pageAccess x payload)
+          → Leaves x (numberedOutcome pageAccess guardedRights x payload)
       go false l f = rw (lt-ltb (length payload) 5 (leb-false 5 (length payload) l)) (record { next = refl; unmarked = refl })
-      go true l f = rw (numbered-stale pageAccess x payload (leb-true 5 (length payload) l) (rw e f)) (record { next = refl; unmarked = refl })
+      go true l f = rw (numbered-stale pageAccess guardedRights x payload refl (leb-true 5 (length payload) l) (rw e f)) (record { next = refl; unmarked = refl })
 
-pub port-zero-guarded : PortZeroGuarded
+pub number-guards : NumberGuards
 unfolding messageOutcome carried
-port-zero-guarded x m kept e f = go (m .good) (eqb (m .kind) numberedKind) refl refl
+number-guards x m kept e f = go (m .good) (eqb (m .kind) numberedKind) refl refl
   where
     go : (g k : Bool) → m .good ≡ g → eqb (m .kind) numberedKind ≡ k → Unchanged x m
     go false k gs ks = record { next = rw gs; unmarked = rw gs }

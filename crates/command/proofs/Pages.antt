@@ -23,13 +23,15 @@ use Rattle.page.proofs.Pages.{both, writing-size, usable-storable, key-back, fa
 use Rattle.message.specs.Message.{typeOf, lengthOf, payloadOf}
 use Rattle.message.specs.Fields.{fieldsOf}
 use Rattle.message.specs.Whole.{refuse}
+use Rattle.command.specs.declared.rights.Rights.{Rights}
 use Rattle.command.specs.declared.settings.Settings.{Settings}
 use Rattle.command.specs.declared.command.Command.{Command}
+use Rattle.command.specs.Rights.{allRights}
 use Rattle.command.specs.Command.{valueFor, commandsOf}
 use Rattle.command.specs.Errors.{fieldWrong, fieldError, commandError}
 use Rattle.command.specs.Numbers.{numberedKind, numberOf, innerKind, innerPayload, numberError}
 use Rattle.command.specs.Effects.{workingValue, startSettings, Effect, functionEffect, effectOf, settingsUsable}
-use Rattle.command.specs.Outcome.{State, Outcome, Received, receivedOf, replyRow, rowOutcome, isSave, thenOutcome, pageAfter, effectOutcome, needsNumber, fieldOutcome, fieldsOutcome}
+use Rattle.command.specs.Outcome.{State, Outcome, Received, receivedOf, replyRow, rowOutcome, isSave, thenOutcome, pageAfter, effectOutcome, denialOf, fieldOutcome, fieldsOutcome}
 use Rattle.command.specs.Handle.{fieldsIn, refusedOutcome, commandOn, commandOutcome, spent, numberedOn, numberedOutcome, messageOutcome}
 use Rattle.command.specs.Answer.{bodyValue, lookedUp, loadedFrom, settingsFrom, putOn, savedOn, numberOn, pageAccess, replyRoom, Answering, answerWith, answerOn, answering}
 use Rattle.command.specs.OnBoard.{LoadsUsable, LoadsStored, StartsTake, Asks, working, refusing, FunctionOne, FunctionFour}
@@ -88,16 +90,16 @@ start-takes page s h =
 
 -- ---- functions 1 and 4
 
-module _ (guarded : Bool) (x : State (List ℕ)) (c : Command) (s : Setting) where
+module _ (rights : Rights) (x : State (List ℕ)) (c : Command) (s : Setting) where
   unfoldable error : ℕ
-  error = fieldError (needsNumber pageAccess guarded (x .page)) (loadedFrom (x .page)) c
+  error = fieldError (denialOf pageAccess rights (x .page)) (loadedFrom (x .page)) c
 
   -- A refused field leaves all as it is.
-  refused-with : (n : ℕ) → error ≡ suc n → fieldOutcome pageAccess guarded x c ≡ refusing x c (suc n)
+  refused-with : (n : ℕ) → error ≡ suc n → fieldOutcome pageAccess rights x c ≡ refusing x c (suc n)
   unfolding fieldOutcome error
   refused-with n e = rw e
 
-  module _ (a : Asks guarded x c s 1) where
+  module _ (a : Asks rights x c s 1) where
     error-one : error ≡ refuse (not (storable s (valueFor s c))) 4 (refuse (notOnThisBoard s (valueFor s c)) 6 0)
     unfolding error fieldError fieldWrong
     error-one =
@@ -107,7 +109,7 @@ module _ (guarded : Bool) (x : State (List ℕ)) (c : Command) (s : Setting) whe
         let high : leb (c .function) 5 ≡ true = le-leb (c .function) 5 (omega (arith, a .function-is)) in
         rw (a .about, a .free, a .size, low, high, one, four, or-false (notOnThisBoard s (valueFor s c)))
 
-    used-with : usable s (valueFor s c) ≡ true → fieldOutcome pageAccess guarded x c ≡ working x c s (valueFor s c)
+    used-with : usable s (valueFor s c) ≡ true → fieldOutcome pageAccess rights x c ≡ working x c s (valueFor s c)
     unfolding fieldOutcome error
     used-with u =
         let e : error ≡ 0 = error-one ∙ rw (usable-storable s (valueFor s c) u, u) in
@@ -117,31 +119,31 @@ module _ (guarded : Bool) (x : State (List ℕ)) (c : Command) (s : Setting) whe
             → rowOutcome (c .code) 0 (effectOutcome savedOn (functionEffect f (loadedFrom (x .page)) (x .settings) s (valueFor s c)) x) ≡ working x c s (valueFor s c)
         one f e = rw e
 
-  module _ (a : Asks guarded x c s 4) where
+  module _ (a : Asks rights x c s 4) where
     error-four : error ≡ refuse (not (isThere (loadedFrom (x .page) s))) 6 0
     unfolding error fieldError fieldWrong
     error-four = rw (a .about, a .free, a .size, a .function-is)
 
-    loaded-with : (v : ℕ) → loadedFrom (x .page) s ≡ Value v → fieldOutcome pageAccess guarded x c ≡ working x c s v
+    loaded-with : (v : ℕ) → loadedFrom (x .page) s ≡ Value v → fieldOutcome pageAccess rights x c ≡ working x c s v
     unfolding fieldOutcome error
     loaded-with v l =
         let e : error ≡ 0 = error-four ∙ rw l in
         rw (e, a .about, a .function-is, l)
 
 pub uses-or-refuses : FunctionOne
-uses-or-refuses guarded x c s a =
+uses-or-refuses rights x c s a =
     record {
-      used = used-with guarded x c s a;
-      not-on-board = λ h. let b = both (storable s (valueFor s c)) (not (usable s (valueFor s c))) h in refused-with guarded x c s 5 (error-one guarded x c s a ∙ rw (b .0, b .1));
-      bad = λ h. refused-with guarded x c s 3 (error-one guarded x c s a ∙ rw h);
+      used = used-with rights x c s a;
+      not-on-board = λ h. let b = both (storable s (valueFor s c)) (not (usable s (valueFor s c))) h in refused-with rights x c s 5 (error-one rights x c s a ∙ rw (b .0, b .1));
+      bad = λ h. refused-with rights x c s 3 (error-one rights x c s a ∙ rw h);
     }
 
 pub loads-or-refuses : FunctionFour
-loads-or-refuses guarded x c s h a =
+loads-or-refuses rights x c s h a =
     record {
-      held = λ v e u. loaded-with guarded x c s a v (loads-held (x .page) s h e ∙ rw u);
-      unheld = λ e. loaded-with guarded x c s a (factoryValue s) (loads-held (x .page) s h e);
-      not-on-board = λ v e u. refused-with guarded x c s 5 (error-four guarded x c s a ∙ rw (loads-held (x .page) s h e, u));
+      held = λ v e u. loaded-with rights x c s a v (loads-held (x .page) s h e ∙ rw u);
+      unheld = λ e. loaded-with rights x c s a (factoryValue s) (loads-held (x .page) s h e);
+      not-on-board = λ v e u. refused-with rights x c s 5 (error-four rights x c s a ∙ rw (loads-held (x .page) s h e, u));
     }
 
 -- ---- values put in
@@ -191,39 +193,39 @@ saved-as (some s) w page h a =
     let k = save-changes page s (workingValue w s) h (value-usable w s a) in
     record { stays = k .sound-page; written = k .put-page; mark = refl }
 
-pub field-goes : (guarded : Bool) (x : State (List ℕ)) (c : Command) → Sound x
-    → Goes (x .page) (fieldPuts guarded x c) (fieldOutcome pageAccess guarded x c)
+pub field-goes : (rights : Rights) (x : State (List ℕ)) (c : Command) → Sound x
+    → Goes (x .page) (fieldPuts rights x c) (fieldOutcome pageAccess rights x c)
 unfolding fieldOutcome effectOf
-field-goes guarded x c k =
-    let needs = needsNumber pageAccess guarded (x .page) in
-    let e = effectOf needs (loadedFrom (x .page)) (x .settings) c in
+field-goes rights x c k =
+    let denial = denialOf pageAccess rights (x .page) in
+    let e = effectOf denial (loadedFrom (x .page)) (x .settings) c in
     let s = saved-as (e .saves) (x .settings) (x .page) (k .page) (k .settings) in
     record {
-      stays = record { settings = keeps-usable needs (loadedFrom (x .page)) (x .settings) c (loads-usable (x .page)) (k .settings); page = s .stays };
+      stays = record { settings = keeps-usable denial (loadedFrom (x .page)) (x .settings) c (loads-usable (x .page)) (k .settings); page = s .stays };
       written = s .written;
       mark = s .mark;
     }
 
 pub field-keeps : FieldKeeps
 unfolding fieldOutcome effectOf
-field-keeps guarded x c h a =
+field-keeps rights x c h a =
     record {
       saved = λ s so.
-          (let e : effect .saves ≡ some s = saves-then needs (loadedFrom (x .page)) (x .settings) c s so in
+          (let e : effect .saves ≡ some s = saves-then denial (loadedFrom (x .page)) (x .settings) c s so in
           (rw e, rw e (save-changes (x .page) s (workingValue (x .settings) s) h (value-usable (x .settings) s a) .put-page)));
       unsaved = λ n. go n (effect .saves) refl;
     }
   where
-    needs : Bool
-    needs = needsNumber pageAccess guarded (x .page)
+    denial : ℕ
+    denial = denialOf pageAccess rights (x .page)
 
     effect : Effect
-    effect = effectOf needs (loadedFrom (x .page)) (x .settings) c
+    effect = effectOf denial (loadedFrom (x .page)) (x .settings) c
 
-    go : ((s : Setting) → SaveOf needs (loadedFrom (x .page)) c s → ⊥) → (saves : Option Setting) → effect .saves ≡ saves
+    go : ((s : Setting) → SaveOf denial (loadedFrom (x .page)) c s → ⊥) → (saves : Option Setting) → effect .saves ≡ saves
         → (isSave (effect .saves) ≡ false) × (pageAfter savedOn (effect .saves) (x .settings) (x .page) ≡ x .page)
     go n none e = (rw e, rw e)
-    go n (some s) e = absurd (n s (saves-only needs (loadedFrom (x .page)) (x .settings) c s e))
+    go n (some s) e = absurd (n s (saves-only denial (loadedFrom (x .page)) (x .settings) c s e))
 
 idle-goes : (x : State (List ℕ)) → Sound x → (rows : List ℕ) → Goes (x .page) [] (record { rows = rows; saved = false; next = x })
 idle-goes x k rows = record { stays = k; written = refl; mark = refl }
@@ -244,29 +246,29 @@ then-goes page ps qs a b g h =
       mark = rw (g .mark, h .mark) (either-put ps qs);
     }
 
-fields-go : (guarded : Bool) (x : State (List ℕ)) (cs : List Command) → Sound x
-    → Goes (x .page) (fieldsPuts guarded x cs) (fieldsOutcome pageAccess guarded x cs)
+fields-go : (rights : Rights) (x : State (List ℕ)) (cs : List Command) → Sound x
+    → Goes (x .page) (fieldsPuts rights x cs) (fieldsOutcome pageAccess rights x cs)
 unfolding fieldsOutcome fieldsPuts
-fields-go guarded x [] k = idle-goes x k []
-fields-go guarded x (c ∷ cs) k =
-    let o = fieldOutcome pageAccess guarded x c in
-    let g = field-goes guarded x c k in
-    then-goes (x .page) (fieldPuts guarded x c) (fieldsPuts guarded (o .next) cs) o (fieldsOutcome pageAccess guarded (o .next) cs)
-    g (fields-go guarded (o .next) cs (g .stays))
+fields-go rights x [] k = idle-goes x k []
+fields-go rights x (c ∷ cs) k =
+    let o = fieldOutcome pageAccess rights x c in
+    let g = field-goes rights x c k in
+    then-goes (x .page) (fieldPuts rights x c) (fieldsPuts rights (o .next) cs) o (fieldsOutcome pageAccess rights (o .next) cs)
+    g (fields-go rights (o .next) cs (g .stays))
 
-pub command-goes : (guarded : Bool) (x : State (List ℕ)) (kind : ℕ) (payload : List ℕ) → Sound x
-    → Goes (x .page) (commandPuts guarded x kind payload) (commandOutcome pageAccess guarded x kind payload)
+pub command-goes : (rights : Rights) (x : State (List ℕ)) (kind : ℕ) (payload : List ℕ) → Sound x
+    → Goes (x .page) (commandPuts rights x kind payload) (commandOutcome pageAccess rights x kind payload)
 unfolding commandOutcome commandPuts
-command-goes guarded x kind payload k = go (commandError kind payload)
+command-goes rights x kind payload k = go (commandError kind payload)
   where
-    go : (n : ℕ) → Goes (x .page) (commandPutsOn n guarded x kind payload) (commandOn pageAccess n guarded x kind payload)
-    go zero = fields-go guarded x (commandsOf kind (fieldsIn (fieldsOf payload))) k
+    go : (n : ℕ) → Goes (x .page) (commandPutsOn n rights x kind payload) (commandOn pageAccess n rights x kind payload)
+    go zero = fields-go rights x (commandsOf kind (fieldsIn (fieldsOf payload))) k
     go (suc n) = idle-goes x k (replyRow (getD payload 0 0) (suc n) [])
 
 -- A number is spent, then the command inside is handled.
-numbered-goes : (x : State (List ℕ)) (payload : List ℕ) → Sound x → Goes (x .page) (numberedPuts x payload) (numberedOutcome pageAccess x payload)
+numbered-goes : (rights : Rights) (x : State (List ℕ)) (payload : List ℕ) → Sound x → Goes (x .page) (numberedPuts rights x payload) (numberedOutcome pageAccess rights x payload)
 unfolding numberedOutcome numberedPuts
-numbered-goes x payload k = go (numberError (numberOn (x .page)) payload)
+numbered-goes rights x payload k = go (numberError rights (numberOn (x .page)) payload)
   where
     n : ℕ
     n = numberOf payload
@@ -275,10 +277,10 @@ numbered-goes x payload k = go (numberError (numberOn (x .page)) payload)
     put = page-changes (x .page) lastNumber n (k .page) (lt-ltb n 4294967296 (number-small payload))
 
     puts : List Put
-    puts = commandPuts false (spent pageAccess x n) (innerKind payload) (innerPayload payload)
+    puts = commandPuts allRights (spent pageAccess x n) (innerKind payload) (innerPayload payload)
 
-    inner : Goes (spent pageAccess x n .page) puts (commandOutcome pageAccess false (spent pageAccess x n) (innerKind payload) (innerPayload payload))
-    inner = command-goes false (spent pageAccess x n) (innerKind payload) (innerPayload payload) (record { settings = k .settings; page = put .sound-page })
+    inner : Goes (spent pageAccess x n .page) puts (commandOutcome pageAccess allRights (spent pageAccess x n) (innerKind payload) (innerPayload payload))
+    inner = command-goes allRights (spent pageAccess x n) (innerKind payload) (innerPayload payload) (record { settings = k .settings; page = put .sound-page })
 
     go : (e : ℕ) → Goes (x .page) (numberedPutsOn e x payload) (numberedOn pageAccess e x payload)
     go zero =
@@ -289,52 +291,52 @@ numbered-goes x payload k = go (numberError (numberOn (x .page)) payload)
         }
     go (suc e) = idle-goes x k (replyRow (getD (innerPayload payload) 0 0) (suc e) [])
 
-pub message-goes : (port : ℕ) (x : State (List ℕ)) (m : Received) → Sound x → Goes (x .page) (messagePuts port x m) (messageOutcome pageAccess port x m)
+pub message-goes : (rights : Rights) (x : State (List ℕ)) (m : Received) → Sound x → Goes (x .page) (messagePuts rights x m) (messageOutcome pageAccess rights x m)
 unfolding messageOutcome messagePuts
-message-goes port x m k = go (m .good) (eqb (m .kind) numberedKind)
+message-goes rights x m k = go (m .good) (eqb (m .kind) numberedKind)
   where
     go : (good numbered : Bool) → Goes (x .page)
-        (cond (not good) [] (cond numbered (numberedPuts x (m .payload)) (commandPuts (eqb port 0) x (m .kind) (m .payload))))
+        (cond (not good) [] (cond numbered (numberedPuts rights x (m .payload)) (commandPuts rights x (m .kind) (m .payload))))
         (cond (not good) (refusedOutcome (getD (m .payload) 0 0) 1 x)
-        (cond numbered (numberedOutcome pageAccess x (m .payload)) (commandOutcome pageAccess (eqb port 0) x (m .kind) (m .payload))))
+        (cond numbered (numberedOutcome pageAccess rights x (m .payload)) (commandOutcome pageAccess rights x (m .kind) (m .payload))))
     go false numbered = idle-goes x k (replyRow (getD (m .payload) 0 0) 1 [])
-    go true true = numbered-goes x (m .payload) k
-    go true false = command-goes (eqb port 0) x (m .kind) (m .payload) k
+    go true true = numbered-goes rights x (m .payload) k
+    go true false = command-goes rights x (m .kind) (m .payload) k
 
 -- ---- an answer
 
-pub answer-large : (port : ℕ) (m : Received) (w : Settings) (room page : List ℕ) → replyRoom ≤ length room
-    → answering port m w room page ≡ answerWith (m .kind) (messageOutcome pageAccess port (record { settings = w; page = page }) m) room
+pub answer-large : (rights : Rights) (m : Received) (w : Settings) (room page : List ℕ) → replyRoom ≤ length room
+    → answering rights m w room page ≡ answerWith (m .kind) (messageOutcome pageAccess rights (record { settings = w; page = page }) m) room
 unfolding answering
-answer-large port m w room page h = rw (le-ltb (length room) replyRoom h)
+answer-large rights m w room page h = rw (le-ltb (length room) replyRoom h)
 
 pub reply-whole : ReplyWhole
-reply-whole port m w room page h = ap (λ (a : Answering). a .room) (answer-large port m w room page h)
+reply-whole rights m w room page h = ap (λ (a : Answering). a .room) (answer-large rights m w room page h)
 
-answer-small : (port : ℕ) (m : Received) (w : Settings) (room page : List ℕ) → length room < replyRoom
-    → answering port m w room page ≡ record { answer = record { saved = false; settings = w }; room = room; page = page }
+answer-small : (rights : Rights) (m : Received) (w : Settings) (room page : List ℕ) → length room < replyRoom
+    → answering rights m w room page ≡ record { answer = record { saved = false; settings = w }; room = room; page = page }
 unfolding answering
-answer-small port m w room page h = rw (lt-ltb (length room) replyRoom h)
+answer-small rights m w room page h = rw (lt-ltb (length room) replyRoom h)
 
 pub answer-keeps : AnswerKeeps
 unfolding answering
-answer-keeps port m w room page h a =
+answer-keeps rights m w room page h a =
     record {
       settings-usable = go (ltb (length room) replyRoom) .0;
       page-sound = go (ltb (length room) replyRoom) .1;
-      page-after = λ l. rw (answer-large port m w room page l) (g .written);
-      mark = λ l. rw (answer-large port m w room page l) (g .mark);
-      small-room = answer-small port m w room page;
+      page-after = λ l. rw (answer-large rights m w room page l) (g .written);
+      mark = λ l. rw (answer-large rights m w room page l) (g .mark);
+      small-room = answer-small rights m w room page;
     }
   where
     x : State (List ℕ)
     x = record { settings = w; page = page }
 
-    g : Goes page (messagePuts port x m) (messageOutcome pageAccess port x m)
-    g = message-goes port x m (record { settings = a; page = h })
+    g : Goes page (messagePuts rights x m) (messageOutcome pageAccess rights x m)
+    g = message-goes rights x m (record { settings = a; page = h })
 
-    go : (b : Bool) → (settingsUsable (answerOn b (m .kind) (messageOutcome pageAccess port x m) w room page .answer .settings) ≡ true)
-        × (sound (answerOn b (m .kind) (messageOutcome pageAccess port x m) w room page .page) ≡ true)
+    go : (b : Bool) → (settingsUsable (answerOn b (m .kind) (messageOutcome pageAccess rights x m) w room page .answer .settings) ≡ true)
+        × (sound (answerOn b (m .kind) (messageOutcome pageAccess rights x m) w room page .page) ≡ true)
     go true = (a, h)
     go false = (g .stays .settings, g .stays .page)
 

@@ -12,6 +12,7 @@ use Rattle.word.specs.Word.{number, word}
 use Rattle.page.specs.declared.setting.Stored.{Stored}
 use Rattle.page.specs.declared.setting.Stored.the-variants.{Absent, Value}
 use Rattle.page.specs.Page.{isThere}
+use Rattle.command.specs.declared.rights.Rights.{Rights}
 use Rattle.command.specs.Numbers.{numberedKind, numberOf, innerKind, innerPayload, isFresh, numberError}
 use Rattle.command.specs.Answer.{spentOn, numberOn}
 use Rattle.command.specs.declared.number.Opened.{Opened}
@@ -62,27 +63,31 @@ module _ (held chunk : List ℕ) (to : ℕ) where
 
   -- ---- its error
 
-  module _ (last : Stored) where
-    pub number-short : to < 9 → 4 ≡ numberError last payload
+  module _ (rights : Rights) (last : Stored) where
+    pub number-not-allowed : rights .readonly ≡ true → 7 ≡ numberError rights last payload
     unfolding numberError
-    number-short h = rw (lt-ltb (length payload) 5 (omega (arith, size)))
+    number-not-allowed h = rw h
 
-    module _ (long : 9 ≤ to) (there : to ≤ 4 + (length held + length chunk - 4)) (n : ℕ) (ns : n ≡ numberOf payload) (kept : Stored) (ks : kept ≡ last)
+    pub number-short : rights .readonly ≡ false → to < 9 → 4 ≡ numberError rights last payload
+    unfolding numberError
+    number-short e h = rw (e, lt-ltb (length payload) 5 (omega (arith, size)))
+
+    module _ (allowed-here : rights .readonly ≡ false) (long : 9 ≤ to) (there : to ≤ 4 + (length held + length chunk - 4)) (n : ℕ) (ns : n ≡ numberOf payload) (kept : Stored) (ks : kept ≡ last)
         (f : Bool) (fs : f ≡ isFresh kept n) where
-      pub number-fresh : f ≡ true → 0 ≡ numberError last payload
+      pub number-fresh : f ≡ true → 0 ≡ numberError rights last payload
       unfolding numberError
-      number-fresh e = rw (le-ltb (length payload) 5 (omega (arith, size)), ← ns, ← ks, ← fs, e)
+      number-fresh e = rw (allowed-here, le-ltb (length payload) 5 (omega (arith, size)), ← ns, ← ks, ← fs, e)
 
-      pub number-stale : f ≡ false → 5 ≡ numberError last payload
+      pub number-stale : f ≡ false → 5 ≡ numberError rights last payload
       unfolding numberError
-      number-stale e = rw (le-ltb (length payload) 5 (omega (arith, size)), ← ns, ← ks, ← fs, e)
+      number-stale e = rw (allowed-here, le-ltb (length payload) 5 (omega (arith, size)), ← ns, ← ks, ← fs, e)
 
     -- A number without error is there, with a type behind it.
-    pub number-there : (error : ℕ) → error ≡ numberError last payload → error ≡ 0 → to ≤ 4 + (length held + length chunk - 4)
+    pub number-there : (error : ℕ) → error ≡ numberError rights last payload → error ≡ 0 → to ≤ 4 + (length held + length chunk - 4)
         → (9 ≤ to) × (9 ≤ length held + length chunk) × (to ≤ 9 + (length held + length chunk - 9))
     unfolding numberError
     number-there error es z h =
-        let e : ltb (length payload) 5 ≡ false = none-refused (ltb (length payload) 5) 3 _ (sym es ∙ z) .0 in
+        let e : ltb (length payload) 5 ≡ false = none-refused (ltb (length payload) 5) 3 _ (none-refused (rights .readonly) 6 _ (sym es ∙ z) .1) .0 in
         let l : 5 ≤ length payload = ltb-false (length payload) 5 e in
         (omega (arith, size), omega (arith, size), omega (arith, size))
 
@@ -96,21 +101,21 @@ module _ (held chunk : List ℕ) (to : ℕ) where
 
 -- ---- a message opened
 
-module _ (good : Bool) (kind : ℕ) (payload page : List ℕ) where
+module _ (rights : Rights) (good : Bool) (kind : ℕ) (payload page : List ℕ) where
   pub open-damaged : not good ≡ true → (o : Opened) → o ≡ record { error = 1; kind = kind; from = 4; numbered = false }
-      → record { opened = o; page = page } ≡ openingOf good kind payload page
+      → record { opened = o; page = page } ≡ openingOf rights good kind payload page
   unfolding openingOf
   open-damaged e o h = rw (h, e)
 
   module _ (right : not good ≡ false) where
     pub open-plain : (kind ≡ 0x7C → ⊥) → (o : Opened) → o ≡ record { error = 0; kind = kind; from = 4; numbered = false }
-        → record { opened = o; page = page } ≡ openingOf good kind payload page
+        → record { opened = o; page = page } ≡ openingOf rights good kind payload page
     unfolding openingOf
     open-plain n o h = rw (h, right, ne-eqb kind 0x7C n)
 
-    module _ (k : kind ≡ 0x7C) (error : ℕ) (es : error ≡ numberError (numberOn page) payload) where
+    module _ (k : kind ≡ 0x7C) (error : ℕ) (es : error ≡ numberError rights (numberOn page) payload) where
       pub open-refused : (error ≡ 0 → ⊥) → (o : Opened) → o ≡ record { error = error; kind = kind; from = 9; numbered = false }
-          → record { opened = o; page = page } ≡ openingOf good kind payload page
+          → record { opened = o; page = page } ≡ openingOf rights good kind payload page
       unfolding openingOf
       open-refused n o h = rw (h, right, eq-eqb kind 0x7C k, ← es) (go error n)
         where
@@ -119,36 +124,36 @@ module _ (good : Bool) (kind : ℕ) (payload page : List ℕ) where
           go (suc e) n = refl
 
       pub open-spent : error ≡ 0 → (n : ℕ) → n ≡ numberOf payload → (next : List ℕ) → next ≡ spentOn page n → (inner : ℕ) → inner ≡ innerKind payload
-          → opening 0 inner 9 true next ≡ openingOf good kind payload page
+          → opening 0 inner 9 true next ≡ openingOf rights good kind payload page
       unfolding openingOf
       open-spent z n ns next xs inner is = rw (right, eq-eqb kind 0x7C k, ← es, z, xs, ns, is)
 
 -- The fields of its command stand there.
-pub open-fits : (held chunk : List ℕ) (to : ℕ) (good : Bool) (kind : ℕ) (page : List ℕ) → 4 ≤ to → to ≤ 4 + (length held + length chunk - 4)
-    → (z : Opening) → z ≡ openingOf good kind (drop 4 (take to (held ++ chunk))) page → z .opened .error ≡ 0
+pub open-fits : (held chunk : List ℕ) (to : ℕ) (rights : Rights) (good : Bool) (kind : ℕ) (page : List ℕ) → 4 ≤ to → to ≤ 4 + (length held + length chunk - 4)
+    → (z : Opening) → z ≡ openingOf rights good kind (drop 4 (take to (held ++ chunk))) page → z .opened .error ≡ 0
     → (z .opened .from ≤ to) × (to ≤ z .opened .from + (length held + length chunk - z .opened .from))
 unfolding openingOf
-open-fits held chunk to good kind page low high z e =
+open-fits held chunk to rights good kind page low high z e =
     subst (λ (z : Opening). z .opened .error ≡ 0 → (z .opened .from ≤ to) × (to ≤ z .opened .from + (length held + length chunk - z .opened .from))) (sym e)
     (go (not good) (eqb kind numberedKind))
   where
-    number-fits : (n : ℕ) → numberError (numberOn page) (drop 4 (take to (held ++ chunk))) ≡ n
+    number-fits : (n : ℕ) → numberError rights (numberOn page) (drop 4 (take to (held ++ chunk))) ≡ n
         → numberOpening n kind (drop 4 (take to (held ++ chunk))) page .opened .error ≡ 0
         → (numberOpening n kind (drop 4 (take to (held ++ chunk))) page .opened .from ≤ to)
         × (to ≤ numberOpening n kind (drop 4 (take to (held ++ chunk))) page .opened .from
         + (length held + length chunk - numberOpening n kind (drop 4 (take to (held ++ chunk))) page .opened .from))
-    number-fits zero h q = let t = number-there held chunk to (numberOn page) 0 (sym h) refl high in (t .0, t .2)
+    number-fits zero h q = let t = number-there held chunk to rights (numberOn page) 0 (sym h) refl high in (t .0, t .2)
     number-fits (suc n) h q = absurd (omega arith)
 
     go : (a b : Bool)
         → cond a (opening 1 kind 4 false page)
-        (cond b (numberOpening (numberError (numberOn page) (drop 4 (take to (held ++ chunk)))) kind (drop 4 (take to (held ++ chunk))) page) (opening 0 kind 4 false page)) .opened .error ≡ 0
+        (cond b (numberOpening (numberError rights (numberOn page) (drop 4 (take to (held ++ chunk)))) kind (drop 4 (take to (held ++ chunk))) page) (opening 0 kind 4 false page)) .opened .error ≡ 0
         → (cond a (opening 1 kind 4 false page)
-        (cond b (numberOpening (numberError (numberOn page) (drop 4 (take to (held ++ chunk)))) kind (drop 4 (take to (held ++ chunk))) page) (opening 0 kind 4 false page)) .opened .from ≤ to)
+        (cond b (numberOpening (numberError rights (numberOn page) (drop 4 (take to (held ++ chunk)))) kind (drop 4 (take to (held ++ chunk))) page) (opening 0 kind 4 false page)) .opened .from ≤ to)
         × (to ≤ cond a (opening 1 kind 4 false page)
-        (cond b (numberOpening (numberError (numberOn page) (drop 4 (take to (held ++ chunk)))) kind (drop 4 (take to (held ++ chunk))) page) (opening 0 kind 4 false page)) .opened .from
+        (cond b (numberOpening (numberError rights (numberOn page) (drop 4 (take to (held ++ chunk)))) kind (drop 4 (take to (held ++ chunk))) page) (opening 0 kind 4 false page)) .opened .from
         + (length held + length chunk - cond a (opening 1 kind 4 false page)
-        (cond b (numberOpening (numberError (numberOn page) (drop 4 (take to (held ++ chunk)))) kind (drop 4 (take to (held ++ chunk))) page) (opening 0 kind 4 false page)) .opened .from))
+        (cond b (numberOpening (numberError rights (numberOn page) (drop 4 (take to (held ++ chunk)))) kind (drop 4 (take to (held ++ chunk))) page) (opening 0 kind 4 false page)) .opened .from))
     go true b q = absurd (omega arith)
-    go false true q = number-fits (numberError (numberOn page) (drop 4 (take to (held ++ chunk)))) refl q
+    go false true q = number-fits (numberError rights (numberOn page) (drop 4 (take to (held ++ chunk)))) refl q
     go false false q = (low, high)

@@ -1,8 +1,8 @@
 -- The tests of the error table, case by case.
-use Prim.Native.Nat.{ℕ, suc, _+_, _≤_, _<_}
+use Prim.Native.Nat.{ℕ, zero, suc, _+_, _≤_, _<_}
 use native.Mathlib.Omega.{arith}
 use mathlib.Core.Path.{_≡_, refl, sym, _∙_}
-use mathlib.Core.Bool.{Bool, true, false, _&&_, _||_, not, or-false, and-true, and-false}
+use mathlib.Core.Bool.{Bool, true, false, _&&_, _||_, not, or-false, and-true}
 use mathlib.Core.List.{List, [], _∷_}
 use mathlib.Core.Option.{Option, none, some}
 use lib.Dec.{eqb, leb, ltb}
@@ -15,6 +15,7 @@ use Rattle.page.specs.declared.setting.Stored.{Stored}
 use Rattle.page.specs.Settings.{usable, storable, notOnThisBoard, valueSize}
 use Rattle.page.specs.Page.{isThere}
 use Rattle.page.proofs.Pages.{usable-storable}
+use Rattle.command.specs.declared.rights.Rights.{Rights}
 use Rattle.command.specs.declared.settings.Settings.{Settings}
 use Rattle.command.specs.declared.command.Command.{Command}
 use Rattle.command.specs.declared.command.Subject.{Subject}
@@ -22,9 +23,11 @@ use Rattle.command.specs.declared.command.Subject.the-variants.{Ping, Se
 use Rattle.command.specs.Command.{valueFor, subjectOf}
 use Rattle.message.specs.Fields.{Field, consField, fieldsPast, fieldsOf}
 use Rattle.message.specs.Whole.{refuse}
-use Rattle.command.specs.Errors.{isUnknown, isFunction, sizeRight, functionRight, fieldWrong, notOnBoard, fieldError, alters, fieldsRefused, isKind, commandError}
+use Rattle.command.specs.Errors.{isUnknown, isFunction, sizeRight, functionRight, fieldWrong, notOnBoard, fieldError, alters, nonzero, denied, fieldsRefused, isKind, commandError}
 use Rattle.command.specs.Handle.{fieldsIn}
 use Rattle.command.specs.Effects.{settingsUsable}
+use Rattle.command.specs.Outcome.{denialOf}
+use Rattle.command.specs.Answer.{numberOn, pageAccess}
 
 -- ---- the size
 
@@ -141,32 +144,44 @@ module _ (subject : Subject) (c : Command) where
   pub alters-setting : (s : Setting) → subject ≡ About s → (r : Bool) → r ≡ isFunction (c .function) && not (eqb (c .function) 2) → r ≡ alters subject c
   alters-setting s e r h = rw (e, h)
 
--- Where a number is missing.
-module _ (guarded : Bool) (a : Bool) (kept : Bool) where
-  pub missing-open : not guarded ≡ true → false ≡ guarded && kept && a
-  missing-open e = rw (not-true guarded e)
+-- What is denied under some rights.
+module _ (rights : Rights) (page : List ℕ) where
+  abbrev denial : ℕ
+  denial = denialOf pageAccess rights page
 
-  pub missing-not : not guarded ≡ false → (b : Bool) → b ≡ a → not b ≡ true → false ≡ guarded && kept && a
-  missing-not e b bs h = rw (not-false guarded e, ← bs, not-true b h, and-false kept)
+  pub denies-all : rights .readonly ≡ true → 7 ≡ denial
+  denies-all e = rw e
 
-  pub missing-kept : not guarded ≡ false → (b : Bool) → b ≡ a → not b ≡ false → (r : Bool) → r ≡ kept → r ≡ guarded && kept && a
-  missing-kept e b bs h r rs = rw (rs, not-false guarded e, ← bs, not-false b h, and-true kept)
+  module _ (e : rights .readonly ≡ false) where
+    pub denies-nothing : not (rights .guarded) ≡ true → 0 ≡ denial
+    denies-nothing h = rw (e, not-true (rights .guarded) h)
+
+    module _ (g : not (rights .guarded) ≡ false) (kept : Bool) (is : kept ≡ isThere (numberOn page)) where
+      pub denies-kept : kept ≡ true → 5 ≡ denial
+      denies-kept h = rw (e, not-false (rights .guarded) g, ← is, h)
+
+      pub denies-unkept : kept ≡ false → 0 ≡ denial
+      denies-unkept h = rw (e, not-false (rights .guarded) g, ← is, h)
+
+pub denied-asked : (denial : ℕ) (subject : Subject) (c : Command) → (denial ≡ 0 → ⊥) → (r : Bool) → r ≡ alters subject c → r ≡ denied denial subject c
+denied-asked zero subject c n r e = absurd (n refl)
+denied-asked (suc d) subject c n r e = e
 
 -- The field's error, with what it is about.
-module _ (needs : Bool) (loaded : Setting → Stored) (c : Command) (subject : Subject) (is : subject ≡ subjectOf (c .kind) (c .code)) (u : Bool)
+module _ (denial : ℕ) (loaded : Setting → Stored) (c : Command) (subject : Subject) (is : subject ≡ subjectOf (c .kind) (c .code)) (u : Bool)
     (us : u ≡ isUnknown subject) where
-  pub error-unknown : u ≡ true → 3 ≡ fieldError needs loaded c
+  pub error-unknown : u ≡ true → 3 ≡ fieldError denial loaded c
   unfolding fieldError
   error-unknown e = rw (← is, ← us, e)
 
-  module _ (known : u ≡ false) (n : Bool) (ns : n ≡ needs && alters subject c) where
-    pub error-number : n ≡ true → 5 ≡ fieldError needs loaded c
+  module _ (known : u ≡ false) (d : Bool) (ds : d ≡ denied denial subject c) where
+    pub error-denied : d ≡ true → denial ≡ fieldError denial loaded c
     unfolding fieldError
-    error-number e = rw (← is, ← us, known, ← ns, e)
+    error-denied e = rw (← is, ← us, known, ← ds, e)
 
-    pub error-own : n ≡ false → (r : ℕ) → r ≡ ownError subject loaded c → r ≡ fieldError needs loaded c
+    pub error-own : d ≡ false → (r : ℕ) → r ≡ ownError subject loaded c → r ≡ fieldError denial loaded c
     unfolding fieldError
-    error-own free r rs = rs ∙ rw (← is, ← us, known, ← ns, free)
+    error-own e r rs = rs ∙ rw (← is, ← us, known, ← ds, e)
 
 -- ---- a command as a whole
 
@@ -194,6 +209,12 @@ module _ (kind : ℕ) (payload : List ℕ) (k : Bool) (ks : k ≡ isKind kind) w
 pub none-refused : (b : Bool) (n next : ℕ) → refuse b (suc n) next ≡ 0 → (b ≡ false) × (next ≡ 0)
 none-refused false n next e = (refl, e)
 none-refused true n next e = let z : suc n ≡ 0 = e in absurd (omega arith)
+
+-- A denial that gives 0 is none.
+pub none-denied : (denial : ℕ) (altering : Bool) (next : ℕ) → refuse (nonzero denial && altering) denial next ≡ 0 → next ≡ 0
+none-denied zero altering next e = e
+none-denied (suc d) true next e = let z : suc d ≡ 0 = e in absurd (omega arith)
+none-denied (suc d) false next e = e
 
 -- A command that is not refused as a whole has passed all tests.
 pub record Passed (kind : ℕ) (payload : List ℕ) : Type 0 where

@@ -13,38 +13,38 @@ use Rattle.message.specs.Fields.{Field, consField, fieldsPast, fieldsOf}
 use Rattle.command.specs.declared.command.Command.{Command}
 use Rattle.command.specs.Command.{commandOf, commandsOf}
 use Rattle.command.specs.Errors.{fieldsRefused}
-use Rattle.command.specs.Outcome.{Outcome, fieldOutcome, fieldsOutcome}
+use Rattle.command.specs.Outcome.{Outcome, fieldWith}
 use Rattle.command.specs.Handle.{fieldsIn}
 use Rattle.command.specs.Answer.{pageAccess}
-use Rattle.command.specs.Place.{fieldAt, Placed, stateOf, placed}
+use Rattle.command.specs.Place.{fieldAt, Placed, stateOf, placed, fieldsWith}
 use Rattle.command.proofs.Places.{put-length, placed-then, placed-idle}
 use Rattle.command.proofs.Rests.{restOf, rest-cons, rest-one, rest-past, rest-end, field-there}
-use Rattle.command.proofs.Rows.{outcome-most, outcomes-most}
+use Rattle.command.proofs.Rows.{with-most, all-with-most}
 
 -- What some fields leave, placed behind what is there.
-abbrev pub placedFields : Bool → ℕ → List Field → Placed → Placed
-placedFields guarded kind fs q = placed (q .done) (fieldsOutcome pageAccess guarded (stateOf (q .done) (q .page)) (commandsOf kind fs)) (q .room)
+abbrev pub placedFields : ℕ → ℕ → List Field → Placed → Placed
+placedFields denial kind fs q = placed (q .done) (fieldsWith denial (stateOf (q .done) (q .page)) (commandsOf kind fs)) (q .room)
 
 -- Before a turn at a place of the first `to` bytes of a row: fields remain, there is room for them, and with them placed the
 -- whole is.
-pub record Turn (row : List ℕ) (guarded : Bool) (kind to : ℕ) (whole : Placed) (at : ℕ) (q : Placed) : Type 0 where
+pub record Turn (row : List ℕ) (denial : ℕ) (kind to : ℕ) (whole : Placed) (at : ℕ) (q : Placed) : Type 0 where
   pub fields : List Field
   pub rest : restOf (take to row) at ≡ some fields
   pub space : q .done .end + 10 * length fields ≤ length (q .room)
-  pub left : placedFields guarded kind fields q ≡ whole
+  pub left : placedFields denial kind fields q ≡ whole
 
 -- ---- the first turn
 
-pub turn-start : (row : List ℕ) (guarded : Bool) (kind to from : ℕ) (q : Placed) → from ≤ to → to ≤ length row → q .done .end + 160 ≤ length (q .room)
+pub turn-start : (row : List ℕ) (denial : ℕ) (kind to from : ℕ) (q : Placed) → from ≤ to → to ≤ length row → q .done .end + 160 ≤ length (q .room)
     → fieldsRefused (fieldsOf (drop from (take to row))) ≡ false
-    → Turn row guarded kind to (placedFields guarded kind (fieldsIn (fieldsOf (drop from (take to row)))) q) from q
+    → Turn row denial kind to (placedFields denial kind (fieldsIn (fieldsOf (drop from (take to row)))) q) from q
 unfolding fieldsOf
-turn-start row guarded kind to from q h l s r =
+turn-start row denial kind to from q h l s r =
     let z : from - length (take to row) ≡ 0 = omega (arith, length-take-le to row l) in
     go (fieldsPast 0 (drop from (take to row))) refl z
   where
     go : (o : Option (List Field)) → fieldsPast 0 (drop from (take to row)) ≡ o → from - length (take to row) ≡ 0
-        → Turn row guarded kind to (placedFields guarded kind (fieldsIn (fieldsPast 0 (drop from (take to row)))) q) from q
+        → Turn row denial kind to (placedFields denial kind (fieldsIn (fieldsPast 0 (drop from (take to row)))) q) from q
     go none e z = let b : true ≡ false = rw e at r in let n : _≡_ {A = ℕ} 0 1 = cc in absurd (omega arith)
     go (some fs) e z =
         let b : ltb 16 (length fs) ≡ false = rw e at r in
@@ -53,7 +53,7 @@ turn-start row guarded kind to from q h l s r =
 
 -- ---- a turn
 
-module _ (row : List ℕ) (guarded : Bool) (kind to : ℕ) (fits : to ≤ length row) (at : ℕ) (h : at < to) where
+module _ (row : List ℕ) (denial : ℕ) (kind to : ℕ) (fits : to ≤ length row) (at : ℕ) (h : at < to) where
   long : length (take to row) ≡ to
   long = length-take-le to row fits
 
@@ -106,7 +106,7 @@ module _ (row : List ℕ) (guarded : Bool) (kind to : ℕ) (fits : to ≤ length
       record { is = sym (p .0) ∙ field-there row to at k (not-past (at + (2 + getD row (at + 1) 0)) fs r); rest = r }
 
   module _ (whole q : Placed) where
-    pub turn-space : Turn row guarded kind to whole at q → q .done .end + 10 ≤ length (q .room)
+    pub turn-space : Turn row denial kind to whole at q → q .done .end + 10 ≤ length (q .room)
     turn-space t = go (t .fields) (t .rest) (t .space)
       where
         go : (fs : List Field) → restOf (take to row) at ≡ some fs → q .done .end + 10 * length fs ≤ length (q .room) → q .done .end + 10 ≤ length (q .room)
@@ -114,24 +114,24 @@ module _ (row : List ℕ) (guarded : Bool) (kind to : ℕ) (fits : to ≤ length
         go (f ∷ fs) e s = omega arith
 
     -- The next turn, on what the field left.
-    pub turn-next : Turn row guarded kind to whole at q → (c : Command) → c ≡ commandOf kind (fieldAt at row) → (next : Placed)
-        → next ≡ placed (q .done) (fieldOutcome pageAccess guarded (stateOf (q .done) (q .page)) c) (q .room)
-        → Turn row guarded kind to whole (at + (2 + getD row (at + 1) 0)) next
-    unfolding fieldsOutcome
+    pub turn-next : Turn row denial kind to whole at q → (c : Command) → c ≡ commandOf kind (fieldAt at row) → (next : Placed)
+        → next ≡ placed (q .done) (fieldWith pageAccess denial (stateOf (q .done) (q .page)) c) (q .room)
+        → Turn row denial kind to whole (at + (2 + getD row (at + 1) 0)) next
+    unfolding fieldsWith
     turn-next t c is next e = go (t .fields) (t .rest) (t .space) (t .left)
       where
         a : Outcome (List ℕ)
-        a = fieldOutcome pageAccess guarded (stateOf (q .done) (q .page)) c
+        a = fieldWith pageAccess denial (stateOf (q .done) (q .page)) c
 
-        go : (fs : List Field) → restOf (take to row) at ≡ some fs → q .done .end + 10 * length fs ≤ length (q .room) → placedFields guarded kind fs q ≡ whole
-            → Turn row guarded kind to whole (at + (2 + getD row (at + 1) 0)) next
+        go : (fs : List Field) → restOf (take to row) at ≡ some fs → q .done .end + 10 * length fs ≤ length (q .room) → placedFields denial kind fs q ≡ whole
+            → Turn row denial kind to whole (at + (2 + getD row (at + 1) 0)) next
         go [] r s l = absurd (some-left r)
         go (f ∷ fs) r s l =
             let g = first f fs r in
             let k : c ≡ commandOf kind f = is ∙ ap (commandOf kind) (sym (g .is)) in
-            let b : Outcome (List ℕ) = fieldsOutcome pageAccess guarded (a .next) (commandsOf kind fs) in
-            let am : length (a .rows) ≤ 10 = outcome-most pageAccess guarded (stateOf (q .done) (q .page)) c in
-            let bm : length (b .rows) ≤ 10 * length fs = outcomes-most pageAccess guarded (a .next) kind fs in
+            let b : Outcome (List ℕ) = fieldsWith denial (a .next) (commandsOf kind fs) in
+            let am : length (a .rows) ≤ 10 = with-most pageAccess denial (stateOf (q .done) (q .page)) c in
+            let bm : length (b .rows) ≤ 10 * length fs = all-with-most denial (a .next) kind fs in
             let w : placed (placed (q .done) a (q .room) .done) b (placed (q .done) a (q .room) .room) ≡ whole =
             placed-then (q .done) a b (q .room) (omega arith) ∙ rw (← k) at l in
             rw e
@@ -144,9 +144,9 @@ module _ (row : List ℕ) (guarded : Bool) (kind to : ℕ) (fits : to ≤ length
 
 -- ---- behind the last turn
 
-pub turn-end : (row : List ℕ) (guarded : Bool) (kind to : ℕ) → to ≤ length row → (at : ℕ) (whole q : Placed) → to ≤ at → Turn row guarded kind to whole at q → q ≡ whole
-unfolding fieldsOutcome
-turn-end row guarded kind to fits at whole q h t = go (t .fields) (t .rest) (t .left)
+pub turn-end : (row : List ℕ) (denial : ℕ) (kind to : ℕ) → to ≤ length row → (at : ℕ) (whole q : Placed) → to ≤ at → Turn row denial kind to whole at q → q ≡ whole
+unfolding fieldsWith
+turn-end row denial kind to fits at whole q h t = go (t .fields) (t .rest) (t .left)
   where
     long : length (take to row) ≡ to
     long = length-take-le to row fits
@@ -164,7 +164,7 @@ turn-end row guarded kind to fits at whole q h t = go (t .fields) (t .rest) (t .
             let m : restOf (take to row) at ≡ some [] = rest-end (take to row) at (omega (arith, long)) in
             cc
 
-    go : (fs : List Field) → restOf (take to row) at ≡ some fs → placedFields guarded kind fs q ≡ whole → q ≡ whole
+    go : (fs : List Field) → restOf (take to row) at ≡ some fs → placedFields denial kind fs q ≡ whole → q ≡ whole
     go fs r l =
         let n : fs ≡ [] = no-more fs r in
         sym (placed-idle (q .done) (q .room) (q .page)) ∙ rw n at l

@@ -14,6 +14,7 @@ use Rattle.page.specs.Lookup.{bodyOf, valuesIn}
 use Rattle.page.specs.Loading.{ifUsable}
 use Rattle.page.specs.Sound.{pageWriting}
 use Rattle.message.specs.Write.{doneWriting}
+use Rattle.command.specs.declared.rights.Rights.{Rights}
 use Rattle.command.specs.declared.settings.Settings.{Settings}
 use Rattle.command.specs.declared.answer.Answer.{Answer}
 use Rattle.command.specs.Effects.{startSettings}
@@ -81,6 +82,6 @@ abbrev pub answerOn : Bool → ℕ → Outcome (List ℕ) → Settings → List 
 answerOn true kind o w room page = record { answer = record { saved = false; settings = w }; room = room; page = page }
 answerOn false kind o w room page = answerWith kind o room
 
-unfoldable pub answering : ℕ → Received → Settings → List ℕ → List ℕ → Answering
-answering port m w room page =
-    answerOn (ltb (length room) replyRoom) (m .kind) (messageOutcome pageAccess port (record { settings = w; page = page }) m) w room page
+unfoldable pub answering : Rights → Received → Settings → List ℕ → List ℕ → Answering
+answering rights m w room page =
+    answerOn (ltb (length room) replyRoom) (m .kind) (messageOutcome pageAccess rights (record { settings = w; page = page }) m) w room page

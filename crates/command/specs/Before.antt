@@ -10,6 +10,7 @@ use lib.ListN.{length, getD, drop}
 use Rattle.message.specs.Fields.{Field, fieldsOf}
 use Rattle.message.specs.Whole.{refuse}
 use Rattle.command.specs.declared.command.Command.{Command}
+use Rattle.command.specs.Rights.{allRights}
 use Rattle.command.specs.Command.{commandOf, subjectOf}
 use Rattle.command.specs.Errors.{isUnknown, fieldWrong, notOnBoard, fieldsRefused, isKind}
 use Rattle.command.specs.Numbers.{numberedKind}
@@ -45,22 +46,22 @@ outcomeBefore access x m =
 abbrev pub notOnBoardIn : {P : Type 0} → Access P → State P → Received → Bool
 notOnBoardIn access x m = notOnBoard (subjectOf (m .kind) (getD (m .payload) 0 0)) (access .loaded (x .page)) (oneCommand m)
 
--- What a message is handled to, now and before: one that is not of type 7C, on port 1. (On port 0 it is the same as long as the page
+-- What a message is handled to, now and before: one that is not of type 7C, on port 1 of the full profile. (On port 0 it is the same as long as the page
 -- has no number: `WithoutNumber` in Numbered.)
 pub record NowAndBefore {P : Type 0} (access : Access P) (x : State P) (m : Received) : Type 0 where
   -- One field, no field, wrong sums, another type: as before, but for a value that is not on this board. (What function 4 loaded from a page with
   -- 06 or 07 is not said here: `loaded` is today's.)
-  pub one-field : (f : Field) → fieldsOf (m .payload) ≡ some (f ∷ []) → notOnBoardIn access x m ≡ false → messageOutcome access 1 x m ≡ outcomeBefore access x m
+  pub one-field : (f : Field) → fieldsOf (m .payload) ≡ some (f ∷ []) → notOnBoardIn access x m ≡ false → messageOutcome access allRights x m ≡ outcomeBefore access x m
   -- Where it is not, what was refused before is refused as before, and what was accepted is 6 now, and changes nothing.
-  pub refused-before : (f : Field) → fieldsOf (m .payload) ≡ some (f ∷ []) → (errorBefore m ≡ 0 → ⊥) → messageOutcome access 1 x m ≡ outcomeBefore access x m
+  pub refused-before : (f : Field) → fieldsOf (m .payload) ≡ some (f ∷ []) → (errorBefore m ≡ 0 → ⊥) → messageOutcome access allRights x m ≡ outcomeBefore access x m
   pub not-on-board : (f : Field) → fieldsOf (m .payload) ≡ some (f ∷ []) → notOnBoardIn access x m ≡ true → errorBefore m ≡ 0
-      → messageOutcome access 1 x m ≡ rowOutcome (getD (m .payload) 0 0) 6 (idle x)
-  pub no-field : m .payload ≡ [] → messageOutcome access 1 x m ≡ outcomeBefore access x m
-  pub refused : not (m .good) || not (isKind (m .kind)) ≡ true → messageOutcome access 1 x m ≡ outcomeBefore access x m
+      → messageOutcome access allRights x m ≡ rowOutcome (getD (m .payload) 0 0) 6 (idle x)
+  pub no-field : m .payload ≡ [] → messageOutcome access allRights x m ≡ outcomeBefore access x m
+  pub refused : not (m .good) || not (isKind (m .kind)) ≡ true → messageOutcome access allRights x m ≡ outcomeBefore access x m
   -- A payload that fields do not fill, L = 1 among them, or more than 16: 4 now. Before, it was 3 where its first byte is an unknown
   -- code, else 4.
   pub unfilled : m .good ≡ true → isKind (m .kind) ≡ true → fieldsRefused (fieldsOf (m .payload)) ≡ true
-      → messageOutcome access 1 x m ≡ rowOutcome (getD (m .payload) 0 0) 4 (idle x)
+      → messageOutcome access allRights x m ≡ rowOutcome (getD (m .payload) 0 0) 4 (idle x)
   pub unfilled-before : m .good ≡ true → isKind (m .kind) ≡ true → fieldsRefused (fieldsOf (m .payload)) ≡ true
       → outcomeBefore access x m ≡ rowOutcome (getD (m .payload) 0 0) (cond (isUnknown (subjectOf (m .kind) (getD (m .payload) 0 0))) 3 4) (idle x)
 

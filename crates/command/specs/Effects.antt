@@ -90,5 +90,5 @@ effectOn zero e w = e
 effectOn (suc n) e w = leaving w
 
 -- The effect of a field with its own error.
-unfoldable pub effectOf : Bool → (Setting → Stored) → Settings → Command → Effect
-effectOf needsNumber loaded w c = effectOn (fieldError needsNumber loaded c) (fieldEffect (subjectOf (c .kind) (c .code)) loaded w c) w
+unfoldable pub effectOf : ℕ → (Setting → Stored) → Settings → Command → Effect
+effectOf denial loaded w c = effectOn (fieldError denial loaded c) (fieldEffect (subjectOf (c .kind) (c .code)) loaded w c) w

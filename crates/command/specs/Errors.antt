@@ -1,9 +1,9 @@
--- Document 01, "Handling one message", and requests 02, 03 and 05: the errors, first that applies; of a field, and of a command as a
--- whole.
+-- Document 01, "Handling one message", and requests 02, 03, 05 and 12: the errors, first that applies; of a field, and of a command
+-- as a whole.
 use mathlib.Core.Bool.{Bool, true, false, _&&_, _||_, not}
 use mathlib.Core.List.{List}
 use mathlib.Core.Option.{Option, none, some}
-use Prim.Native.Nat.{ℕ, _+_}
+use Prim.Native.Nat.{ℕ, zero, suc, _+_}
 use lib.Dec.{eqb, leb, ltb}
 use lib.ListN.{length}
 use Rattle.page.specs.declared.setting.Setting.{Setting}
@@ -64,12 +64,21 @@ alters Ping c = false
 alters (About s) c = isFunction (c .function) && not (eqb (c .function) 2)
 alters Unknown c = false
 
--- 3: the code is not one of this type's. 5: functions 1, 3, 4 and 5, where they need a number. 4: size wrong; function not 1 to 5;
--- value not allowed, that is not storable. 6: not on this board. 0: otherwise.
-unfoldable pub fieldError : Bool → (Setting → Stored) → Command → ℕ
-fieldError needsNumber loaded c =
+abbrev pub nonzero : ℕ → Bool
+nonzero zero = false
+nonzero (suc n) = true
+
+-- Functions 1, 3, 4 and 5 are refused where `denial`, the error that they get here, is not 0.
+abbrev pub denied : ℕ → Subject → Command → Bool
+denied denial subject c = nonzero denial && alters subject c
+
+-- 3: the code is not one of this type's. `denial`, where it is not 0: functions 1, 3, 4 and 5, which need a number (5) or are not
+-- allowed on this port (7). 4: size wrong; function not 1 to 5; value not allowed, that is not storable. 6: not on this board. 0:
+-- otherwise.
+unfoldable pub fieldError : ℕ → (Setting → Stored) → Command → ℕ
+fieldError denial loaded c =
     refuse (isUnknown (subjectOf (c .kind) (c .code))) 3
-    (refuse (needsNumber && alters (subjectOf (c .kind) (c .code)) c) 5
+    (refuse (denied denial (subjectOf (c .kind) (c .code)) c) denial
     (refuse (fieldWrong (subjectOf (c .kind) (c .code)) c) 4
     (refuse (notOnBoard (subjectOf (c .kind) (c .code)) loaded c) 6
     0)))

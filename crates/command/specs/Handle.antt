@@ -1,12 +1,14 @@
--- Document 01, "Handling one message", and requests 02 and 03: what a command of 1 to 16 fields, and a message, leave. Over any keeping of
+-- Document 01, "Handling one message", and requests 02, 03 and 12: what a command of 1 to 16 fields, and a message, leave. Over any keeping of
 -- the page's values, as in Outcome.
-use mathlib.Core.Bool.{Bool, true, false, not, cond}
+use mathlib.Core.Bool.{true, not, cond}
 use mathlib.Core.List.{List, []}
 use mathlib.Core.Option.{Option, none, some}
 use Prim.Native.Nat.{ℕ, zero, suc}
 use lib.Dec.{eqb}
 use lib.ListN.{getD}
 use Rattle.message.specs.Fields.{Field, fieldsOf}
+use Rattle.command.specs.declared.rights.Rights.{Rights}
+use Rattle.command.specs.Rights.{allRights}
 use Rattle.command.specs.Command.{commandsOf}
 use Rattle.command.specs.Errors.{commandError}
 use Rattle.command.specs.Numbers.{numberedKind, numberOf, innerKind, innerPayload, numberError}
@@ -25,12 +27,12 @@ refusedOutcome echo error x = rowOutcome echo error (idle x)
 
 module _ {P : Type 0} (access : Access P) where
   -- A command that is refused as a whole echoes its first code, 0 if it has none.
-  abbrev pub commandOn : ℕ → Bool → State P → ℕ → List ℕ → Outcome P
-  commandOn zero guarded x kind payload = fieldsOutcome access guarded x (commandsOf kind (fieldsIn (fieldsOf payload)))
-  commandOn (suc n) guarded x kind payload = refusedOutcome (getD payload 0 0) (suc n) x
+  abbrev pub commandOn : ℕ → Rights → State P → ℕ → List ℕ → Outcome P
+  commandOn zero rights x kind payload = fieldsOutcome access rights x (commandsOf kind (fieldsIn (fieldsOf payload)))
+  commandOn (suc n) rights x kind payload = refusedOutcome (getD payload 0 0) (suc n) x
 
-  unfoldable pub commandOutcome : Bool → State P → ℕ → List ℕ → Outcome P
-  commandOutcome guarded x kind payload = commandOn (commandError kind payload) guarded x kind payload
+  unfoldable pub commandOutcome : Rights → State P → ℕ → List ℕ → Outcome P
+  commandOutcome rights x kind payload = commandOn (commandError kind payload) rights x kind payload
 
 -- ---- one message
 
@@ -46,15 +48,15 @@ module _ {P : Type 0} (access : Access P) where
   -- ".. Then the command inside is handled, with its own errors; the number is spent either way." A message that does not come so far
   -- echoes "the inner command's first code, 0 if it has none".
   abbrev pub numberedOn : ℕ → State P → List ℕ → Outcome P
-  numberedOn zero x payload = marked (commandOutcome access false (spent x (numberOf payload)) (innerKind payload) (innerPayload payload))
+  numberedOn zero x payload = marked (commandOutcome access allRights (spent x (numberOf payload)) (innerKind payload) (innerPayload payload))
   numberedOn (suc n) x payload = refusedOutcome (getD (innerPayload payload) 0 0) (suc n) x
 
-  unfoldable pub numberedOutcome : State P → List ℕ → Outcome P
-  numberedOutcome x payload = numberedOn (numberError (access .lastNumber (x .page)) payload) x payload
+  unfoldable pub numberedOutcome : Rights → State P → List ℕ → Outcome P
+  numberedOutcome rights x payload = numberedOn (numberError rights (access .lastNumber (x .page)) payload) x payload
 
-  -- A message on a port. 1, sums wrong: the reply echoes the first payload byte, 0 if L = 0.
-  unfoldable pub messageOutcome : ℕ → State P → Received → Outcome P
-  messageOutcome port x m =
+  -- A message that has these rights on its port. 1, sums wrong: the reply echoes the first payload byte, 0 if L = 0.
+  unfoldable pub messageOutcome : Rights → State P → Received → Outcome P
+  messageOutcome rights x m =
       cond (not (m .good)) (refusedOutcome (getD (m .payload) 0 0) 1 x)
-      (cond (eqb (m .kind) numberedKind) (numberedOutcome x (m .payload))
-      (commandOutcome access (eqb port 0) x (m .kind) (m .payload)))
+      (cond (eqb (m .kind) numberedKind) (numberedOutcome rights x (m .payload))
+      (commandOutcome access rights x (m .kind) (m .payload)))

@@ -12,5 +12,9 @@ pub mod OnBoard
 pub mod Outcome
 pub mod Place
 pub mod Puts
+pub mod Readonly
+pub mod ReadonlyExamples
+pub mod Rights
 pub mod Several
 pub mod Theorems
+pub mod Unprofiled

@@ -1,4 +1,4 @@
--- Request 03: the number of a command of type 7C.
+-- Requests 03 and 12: the number of a command of type 7C.
 use mathlib.Core.Bool.{Bool, true, not}
 use mathlib.Core.List.{List}
 use Prim.Native.Nat.{ℕ, _%_}
@@ -8,6 +8,7 @@ use Rattle.word.specs.Word.{number}
 use Rattle.page.specs.declared.setting.Stored.{Stored}
 use Rattle.page.specs.declared.setting.Stored.the-variants.{Absent, Value}
 use Rattle.message.specs.Whole.{refuse}
+use Rattle.command.specs.declared.rights.Rights.{Rights}
 
 abbrev pub numberedKind : ℕ
 numberedKind = 0x7C
@@ -28,9 +29,11 @@ abbrev pub isFresh : Stored → ℕ → Bool
 isFresh Absent n = true
 isFresh (Value last) n = ltb last n
 
--- 4: L under 5. 5: the number is stale. 0: it is spent, and the command inside has its own errors.
-unfoldable pub numberError : Stored → List ℕ → ℕ
-numberError last payload =
-    refuse (ltb (length payload) 5) 4
+-- 7: "any 7C with right sums gets it at once, its number unspent", where Ping and function 2 alone are allowed. 4: L under 5. 5: the
+-- number is stale. 0: it is spent, and the command inside has its own errors.
+unfoldable pub numberError : Rights → Stored → List ℕ → ℕ
+numberError rights last payload =
+    refuse (rights .readonly) 7
+    (refuse (ltb (length payload) 5) 4
     (refuse (not (isFresh last (numberOf payload))) 5
-    0)
+    0))

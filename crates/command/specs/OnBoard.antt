@@ -1,7 +1,7 @@
 -- What is proved of values that are on this board, and of those that are not (request 05). Each statement names its proof, a term of that
 -- type in a file of proofs/.
 use mathlib.Core.Path.{_≡_}
-use mathlib.Core.Bool.{Bool, true, false}
+use mathlib.Core.Bool.{true, false}
 use mathlib.Core.List.{List}
 use Prim.Native.Nat.{ℕ}
 use Rattle.page.specs.declared.setting.Setting.{Setting}
@@ -12,13 +12,14 @@ use Rattle.page.specs.Page.{storedIn}
 use Rattle.page.specs.Lookup.{valuesIn}
 use Rattle.page.specs.Sound.{sound}
 use Rattle.page.specs.Loading.{loadedValue}
+use Rattle.command.specs.declared.rights.Rights.{Rights}
 use Rattle.command.specs.declared.settings.Settings.{Settings}
 use Rattle.command.specs.declared.command.Command.{Command}
 use Rattle.command.specs.declared.command.Subject.the-variants.{Setting as About}
 use Rattle.command.specs.Command.{valueFor, subjectOf}
 use Rattle.command.specs.Errors.{sizeRight}
 use Rattle.command.specs.Effects.{workingValue, withWorking, startSettings, settingsUsable}
-use Rattle.command.specs.Outcome.{State, Outcome, idle, rowOutcome, needsNumber, fieldOutcome}
+use Rattle.command.specs.Outcome.{State, Outcome, idle, rowOutcome, denialOf, fieldOutcome}
 use Rattle.command.specs.Answer.{loadedFrom, settingsFrom, pageAccess}
 
 -- ---- the working values
@@ -56,12 +57,12 @@ StartsTake = (page : List ℕ) (s : Setting) → sound page ≡ true → StartTa
 
 -- ---- functions 1 and 4
 
--- A field about a setting with this function and a right size, which needs no number.
-pub record Asks (guarded : Bool) (x : State (List ℕ)) (c : Command) (s : Setting) (function : ℕ) : Type 0 where
+-- A field about a setting with this function and a right size, of which nothing is denied.
+pub record Asks (rights : Rights) (x : State (List ℕ)) (c : Command) (s : Setting) (function : ℕ) : Type 0 where
   pub about : subjectOf (c .kind) (c .code) ≡ About s
   pub function-is : c .function ≡ function
   pub size : sizeRight (About s) c ≡ true
-  pub free : needsNumber pageAccess guarded (x .page) ≡ false
+  pub free : denialOf pageAccess rights (x .page) ≡ 0
 
 -- Its row has this error, and nothing but the working value of the setting changes.
 abbrev pub working : State (List ℕ) → Command → Setting → ℕ → Outcome (List ℕ)
@@ -71,21 +72,21 @@ abbrev pub refusing : State (List ℕ) → Command → ℕ → Outcome (List ℕ
 refusing x c error = rowOutcome (c .code) error (idle x)
 
 -- Function 1: a usable value is used; one that is not on this board is 6; any other is still 4. Proof: Pages `uses-or-refuses`.
-pub record UsesOrRefuses (guarded : Bool) (x : State (List ℕ)) (c : Command) (s : Setting) : Type 0 where
-  pub used : usable s (valueFor s c) ≡ true → fieldOutcome pageAccess guarded x c ≡ working x c s (valueFor s c)
-  pub not-on-board : notOnThisBoard s (valueFor s c) ≡ true → fieldOutcome pageAccess guarded x c ≡ refusing x c 6
-  pub bad : storable s (valueFor s c) ≡ false → fieldOutcome pageAccess guarded x c ≡ refusing x c 4
+pub record UsesOrRefuses (rights : Rights) (x : State (List ℕ)) (c : Command) (s : Setting) : Type 0 where
+  pub used : usable s (valueFor s c) ≡ true → fieldOutcome pageAccess rights x c ≡ working x c s (valueFor s c)
+  pub not-on-board : notOnThisBoard s (valueFor s c) ≡ true → fieldOutcome pageAccess rights x c ≡ refusing x c 6
+  pub bad : storable s (valueFor s c) ≡ false → fieldOutcome pageAccess rights x c ≡ refusing x c 4
 
 abbrev pub FunctionOne : Type 0
-FunctionOne = (guarded : Bool) (x : State (List ℕ)) (c : Command) (s : Setting) → Asks guarded x c s 1 → UsesOrRefuses guarded x c s
+FunctionOne = (rights : Rights) (x : State (List ℕ)) (c : Command) (s : Setting) → Asks rights x c s 1 → UsesOrRefuses rights x c s
 
 -- Function 4 on a sound page: the value held is used, or the factory value where there is none; where the page holds a value that is not
 -- usable it is 6, and the working value is left. Proof: Pages `loads-or-refuses`.
-pub record LoadsOrRefuses (guarded : Bool) (x : State (List ℕ)) (c : Command) (s : Setting) : Type 0 where
-  pub held : (v : ℕ) → storedIn (valuesIn (x .page)) s ≡ Value v → usable s v ≡ true → fieldOutcome pageAccess guarded x c ≡ working x c s v
-  pub unheld : storedIn (valuesIn (x .page)) s ≡ Absent → fieldOutcome pageAccess guarded x c ≡ working x c s (factoryValue s)
-  pub not-on-board : (v : ℕ) → storedIn (valuesIn (x .page)) s ≡ Value v → usable s v ≡ false → fieldOutcome pageAccess guarded x c ≡ refusing x c 6
+pub record LoadsOrRefuses (rights : Rights) (x : State (List ℕ)) (c : Command) (s : Setting) : Type 0 where
+  pub held : (v : ℕ) → storedIn (valuesIn (x .page)) s ≡ Value v → usable s v ≡ true → fieldOutcome pageAccess rights x c ≡ working x c s v
+  pub unheld : storedIn (valuesIn (x .page)) s ≡ Absent → fieldOutcome pageAccess rights x c ≡ working x c s (factoryValue s)
+  pub not-on-board : (v : ℕ) → storedIn (valuesIn (x .page)) s ≡ Value v → usable s v ≡ false → fieldOutcome pageAccess rights x c ≡ refusing x c 6
 
 abbrev pub FunctionFour : Type 0
 FunctionFour =
-    (guarded : Bool) (x : State (List ℕ)) (c : Command) (s : Setting) → sound (x .page) ≡ true → Asks guarded x c s 4 → LoadsOrRefuses guarded x c s
+    (rights : Rights) (x : State (List ℕ)) (c : Command) (s : Setting) → sound (x .page) ≡ true → Asks rights x c s 4 → LoadsOrRefuses rights x c s

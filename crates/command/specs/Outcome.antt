@@ -1,4 +1,4 @@
--- Document 01, "Handling one message", and requests 02, 03 and 05: what a field and a row of fields leave; and the reply. Over any keeping of
+-- Document 01, "Handling one message", and requests 02, 03, 05 and 12: what a field and a row of fields leave; and the reply. Over any keeping of
 -- the page's values: the board keeps a page of 64 bytes, the plain reckoning the values under codes.
 use mathlib.Core.Bool.{Bool, true, false, _&&_, _||_}
 use mathlib.Core.List.{List, [], _∷_, _++_}
@@ -8,6 +8,8 @@ use Rattle.page.specs.declared.setting.Setting.{Setting}
 use Rattle.page.specs.declared.setting.Stored.{Stored}
 use Rattle.page.specs.Page.{isThere}
 use Rattle.message.specs.Message.{messageOf, typeOf, payloadOf}
+use Rattle.message.specs.Whole.{refuse}
+use Rattle.command.specs.declared.rights.Rights.{Rights}
 use Rattle.command.specs.declared.settings.Settings.{Settings}
 use Rattle.command.specs.declared.command.Command.{Command}
 use Rattle.command.specs.Command.{subjectOf}
@@ -97,15 +99,20 @@ module _ {P : Type 0} (access : Access P) where
       rowOutcome (c .code) error
       (effectOutcome (access .save) (effectOn error (fieldEffect (subjectOf (c .kind) (c .code)) (access .loaded (x .page)) (x .settings) c) (x .settings)) x)
 
-  -- "Once the page has the entry, functions 1, 3, 4 and 5 without a number on port 0 are refused": `guarded` says that a field came so.
-  abbrev pub needsNumber : Bool → P → Bool
-  needsNumber guarded page = guarded && isThere (access .lastNumber page)
+  -- The error that functions 1, 3, 4 and 5 get under these rights, 0 where they are allowed. 7: "not allowed on this port, for functions 1,
+  -- 3, 4 and 5". 5: "once the page has the entry, functions 1, 3, 4 and 5 without a number on port 0 are refused".
+  abbrev pub denialOf : Rights → P → ℕ
+  denialOf rights page = refuse (rights .readonly) 7 (refuse (rights .guarded && isThere (access .lastNumber page)) 5 0)
+
+  -- One field handled, where functions 1, 3, 4 and 5 have this error.
+  abbrev pub fieldWith : ℕ → State P → Command → Outcome P
+  fieldWith denial x c = fieldOn (fieldError denial (access .loaded (x .page)) c) x c
 
   -- One field handled.
-  unfoldable pub fieldOutcome : Bool → State P → Command → Outcome P
-  fieldOutcome guarded x c = fieldOn (fieldError (needsNumber guarded (x .page)) (access .loaded (x .page)) c) x c
+  unfoldable pub fieldOutcome : Rights → State P → Command → Outcome P
+  fieldOutcome rights x c = fieldWith (denialOf rights (x .page)) x c
 
   -- The fields in order, each on what those before it left.
-  unfoldable pub fieldsOutcome : Bool → State P → List Command → Outcome P
-  fieldsOutcome guarded x [] = idle x
-  fieldsOutcome guarded x (c ∷ cs) = thenOutcome (fieldOutcome guarded x c) (fieldsOutcome guarded (fieldOutcome guarded x c .next) cs)
+  unfoldable pub fieldsOutcome : Rights → State P → List Command → Outcome P
+  fieldsOutcome rights x [] = idle x
+  fieldsOutcome rights x (c ∷ cs) = thenOutcome (fieldOutcome rights x c) (fieldsOutcome rights (fieldOutcome rights x c .next) cs)

@@ -1,4 +1,4 @@
--- Requests 02 and 03: what a message puts on the board's page. "The page now changes on accepted saves and on fresh numbers."
+-- Requests 02, 03 and 12: what a message puts on the board's page. "The page now changes on accepted saves and on fresh numbers."
 use mathlib.Core.Bool.{Bool, true, false, not, cond}
 use mathlib.Core.List.{List, [], _∷_, _++_}
 use mathlib.Core.Option.{Option, none, some}
@@ -8,13 +8,15 @@ use Rattle.page.specs.declared.setting.Setting.{Setting}
 use Rattle.page.specs.Settings.{Key, valueOf, lastNumber}
 use Rattle.page.specs.Sound.{putPage}
 use Rattle.message.specs.Fields.{fieldsOf}
+use Rattle.command.specs.declared.rights.Rights.{Rights}
 use Rattle.command.specs.declared.settings.Settings.{Settings}
 use Rattle.command.specs.declared.command.Command.{Command}
+use Rattle.command.specs.Rights.{allRights}
 use Rattle.command.specs.Command.{commandsOf}
 use Rattle.command.specs.Errors.{commandError}
 use Rattle.command.specs.Numbers.{numberedKind, numberOf, innerKind, innerPayload, numberError}
 use Rattle.command.specs.Effects.{workingValue, effectOf}
-use Rattle.command.specs.Outcome.{State, Received, needsNumber, fieldOutcome}
+use Rattle.command.specs.Outcome.{State, Received, denialOf, fieldOutcome}
 use Rattle.command.specs.Handle.{fieldsIn, spent}
 use Rattle.command.specs.Answer.{loadedFrom, numberOn, pageAccess}
 
@@ -36,35 +38,35 @@ abbrev pub savePuts : Option Setting → Settings → List Put
 savePuts none w = []
 savePuts (some s) w = record { key = valueOf s; value = workingValue w s } ∷ []
 
-abbrev pub fieldPuts : Bool → State (List ℕ) → Command → List Put
-fieldPuts guarded x c = savePuts (effectOf (needsNumber pageAccess guarded (x .page)) (loadedFrom (x .page)) (x .settings) c .saves) (x .settings)
+abbrev pub fieldPuts : Rights → State (List ℕ) → Command → List Put
+fieldPuts rights x c = savePuts (effectOf (denialOf pageAccess rights (x .page)) (loadedFrom (x .page)) (x .settings) c .saves) (x .settings)
 
 -- The fields of a command in order, each on what those before it left.
-unfoldable pub fieldsPuts : Bool → State (List ℕ) → List Command → List Put
-fieldsPuts guarded x [] = []
-fieldsPuts guarded x (c ∷ cs) = fieldPuts guarded x c ++ fieldsPuts guarded (fieldOutcome pageAccess guarded x c .next) cs
+unfoldable pub fieldsPuts : Rights → State (List ℕ) → List Command → List Put
+fieldsPuts rights x [] = []
+fieldsPuts rights x (c ∷ cs) = fieldPuts rights x c ++ fieldsPuts rights (fieldOutcome pageAccess rights x c .next) cs
 
 -- A command that is refused as a whole puts nothing in.
-abbrev pub commandPutsOn : ℕ → Bool → State (List ℕ) → ℕ → List ℕ → List Put
-commandPutsOn zero guarded x kind payload = fieldsPuts guarded x (commandsOf kind (fieldsIn (fieldsOf payload)))
-commandPutsOn (suc n) guarded x kind payload = []
+abbrev pub commandPutsOn : ℕ → Rights → State (List ℕ) → ℕ → List ℕ → List Put
+commandPutsOn zero rights x kind payload = fieldsPuts rights x (commandsOf kind (fieldsIn (fieldsOf payload)))
+commandPutsOn (suc n) rights x kind payload = []
 
-unfoldable pub commandPuts : Bool → State (List ℕ) → ℕ → List ℕ → List Put
-commandPuts guarded x kind payload = commandPutsOn (commandError kind payload) guarded x kind payload
+unfoldable pub commandPuts : Rights → State (List ℕ) → ℕ → List ℕ → List Put
+commandPuts rights x kind payload = commandPutsOn (commandError kind payload) rights x kind payload
 
--- A fresh number, then what the command inside puts in. One that is stale, or a message too short for one, puts nothing in.
+-- A fresh number, then what the command inside puts in. One that is stale or not allowed, or a message too short for one, puts nothing in.
 abbrev pub numberedPutsOn : ℕ → State (List ℕ) → List ℕ → List Put
 numberedPutsOn zero x payload =
     record { key = lastNumber; value = numberOf payload }
-    ∷ commandPuts false (spent pageAccess x (numberOf payload)) (innerKind payload) (innerPayload payload)
+    ∷ commandPuts allRights (spent pageAccess x (numberOf payload)) (innerKind payload) (innerPayload payload)
 numberedPutsOn (suc n) x payload = []
 
-unfoldable pub numberedPuts : State (List ℕ) → List ℕ → List Put
-numberedPuts x payload = numberedPutsOn (numberError (numberOn (x .page)) payload) x payload
+unfoldable pub numberedPuts : Rights → State (List ℕ) → List ℕ → List Put
+numberedPuts rights x payload = numberedPutsOn (numberError rights (numberOn (x .page)) payload) x payload
 
--- A message on a port. A damaged one puts nothing in.
-unfoldable pub messagePuts : ℕ → State (List ℕ) → Received → List Put
-messagePuts port x m =
+-- A message with these rights. A damaged one puts nothing in.
+unfoldable pub messagePuts : Rights → State (List ℕ) → Received → List Put
+messagePuts rights x m =
     cond (not (m .good)) []
-    (cond (eqb (m .kind) numberedKind) (numberedPuts x (m .payload))
-    (commandPuts (eqb port 0) x (m .kind) (m .payload)))
+    (cond (eqb (m .kind) numberedKind) (numberedPuts rights x (m .payload))
+    (commandPuts rights x (m .kind) (m .payload)))

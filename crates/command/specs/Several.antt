@@ -1,12 +1,13 @@
 -- What is proved of messages of several fields (request 02). Each statement names its proof, a term of that type in a file of proofs/.
 use mathlib.Core.Path.{_≡_}
-use mathlib.Core.Bool.{Bool, true, false, _||_}
+use mathlib.Core.Bool.{true, false, _||_}
 use mathlib.Core.List.{List, [], _∷_, _++_}
 use mathlib.Core.Option.{some}
 use Prim.Native.Nat.{ℕ, zero, suc, _≤_, _<_}
 use lib.ListN.{length}
 use Rattle.message.specs.Fields.{Field, fieldBytes, fieldsOf}
 use Rattle.message.specs.Message.{messageOf, typeOf, payloadOf}
+use Rattle.command.specs.declared.rights.Rights.{Rights}
 use Rattle.command.specs.declared.command.Command.{Command}
 use Rattle.command.specs.Errors.{commandError}
 use Rattle.command.specs.Outcome.{Access, State, Outcome, Received, receivedOf, replyOf, fieldOutcome}
@@ -15,11 +16,11 @@ use Rattle.command.specs.Answer.{replyRoom}
 
 -- Messages handled one after the other, each on what those before it left: the fields of their replies in that order, a mark where
 -- one of them marks a save, and what the last one leaves.
-abbrev pub inTurn : {P : Type 0} → Access P → ℕ → State P → List Received → Outcome P
-inTurn access port x [] = record { rows = []; saved = false; next = x }
-inTurn {P = P} access port x (m ∷ ms) =
-    let o : Outcome P = messageOutcome access port x m in
-    let rest : Outcome P = inTurn access port (o .next) ms in
+abbrev pub inTurn : {P : Type 0} → Access P → Rights → State P → List Received → Outcome P
+inTurn access rights x [] = record { rows = []; saved = false; next = x }
+inTurn {P = P} access rights x (m ∷ ms) =
+    let o : Outcome P = messageOutcome access rights x m in
+    let rest : Outcome P = inTurn access rights (o .next) ms in
     record { rows = o .rows ++ rest .rows; saved = o .saved || rest .saved; next = rest .next }
 
 -- Separate messages of the same type, one for each field in order.
@@ -31,8 +32,8 @@ separate kind (f ∷ fs) = receivedOf true (messageOf kind (fieldBytes f)) ∷ s
 -- separate replies' fields in that order; a save is marked where one of them marks it. Proof: Separate `as-separate`.
 abbrev pub AsSeparate : Type 1
 AsSeparate =
-    (P : Type 0) (access : Access P) (port : ℕ) (x : State P) (m : List ℕ) (fs : List Field) → commandError (typeOf m) (payloadOf m) ≡ 0
-    → fieldsOf (payloadOf m) ≡ some fs → messageOutcome access port x (receivedOf true m) ≡ inTurn access port x (separate (typeOf m) fs)
+    (P : Type 0) (access : Access P) (rights : Rights) (x : State P) (m : List ℕ) (fs : List Field) → commandError (typeOf m) (payloadOf m) ≡ 0
+    → fieldsOf (payloadOf m) ≡ some fs → messageOutcome access rights x (receivedOf true m) ≡ inTurn access rights x (separate (typeOf m) fs)
 
 abbrev pub times : ℕ → List ℕ → List ℕ
 times zero bs = []
@@ -44,8 +45,8 @@ sixteenReports = record { good = true; kind = 0x02; payload = times 16 (0x01 ∷
 
 -- The longest reply is 166 bytes: none is longer, and one is as long. Proof: Separate `longest-reply`.
 pub record LongestReply : Type 1 where
-  pub most : (P : Type 0) (access : Access P) (port : ℕ) (x : State P) (m : Received) → length (replyOf (m .kind) (messageOutcome access port x m)) ≤ replyRoom
-  pub reached : (P : Type 0) (access : Access P) (port : ℕ) (x : State P) → length (replyOf 0x02 (messageOutcome access port x sixteenReports)) ≡ replyRoom
+  pub most : (P : Type 0) (access : Access P) (rights : Rights) (x : State P) (m : Received) → length (replyOf (m .kind) (messageOutcome access rights x m)) ≤ replyRoom
+  pub reached : (P : Type 0) (access : Access P) (rights : Rights) (x : State P) → length (replyOf 0x02 (messageOutcome access rights x sixteenReports)) ≡ replyRoom
 
 -- Two keepings of the page's values that stay related give the same replies and marks of a save.
 pub record Alike {P Q : Type 0} (R : State P → State Q → Type 0) (a : Outcome P) (b : Outcome Q) : Type 0 where
@@ -55,12 +56,12 @@ pub record Alike {P Q : Type 0} (R : State P → State Q → Type 0) (a : Outcom
 
 -- For every field, and for every number.
 pub record KeepAlike {P Q : Type 0} (s : Access P) (t : Access Q) (R : State P → State Q → Type 0) : Type 0 where
-  pub fields : (guarded : Bool) (x : State P) (y : State Q) (c : Command) → R x y → Alike R (fieldOutcome s guarded x c) (fieldOutcome t guarded y c)
+  pub fields : (rights : Rights) (x : State P) (y : State Q) (c : Command) → R x y → Alike R (fieldOutcome s rights x c) (fieldOutcome t rights y c)
   pub numbers : (x : State P) (y : State Q) → R x y → s .lastNumber (x .page) ≡ t .lastNumber (y .page)
   pub puts : (n : ℕ) (x : State P) (y : State Q) → n < 4294967296 → R x y → R (spent s x n) (spent t y n)
 
--- Then they do for every message on every port. Proof: Separate `messages-alike`.
+-- Then they do for every message with any rights. Proof: Separate `messages-alike`.
 abbrev pub MessagesAlike : Type 1
 MessagesAlike =
     (P Q : Type 0) (s : Access P) (t : Access Q) (R : State P → State Q → Type 0) → KeepAlike s t R
-    → (port : ℕ) (x : State P) (y : State Q) (m : Received) → R x y → Alike R (messageOutcome s port x m) (messageOutcome t port y m)
+    → (rights : Rights) (x : State P) (y : State Q) (m : Received) → R x y → Alike R (messageOutcome s rights x m) (messageOutcome t rights y m)

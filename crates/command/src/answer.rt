@@ -1,9 +1,8 @@
 // The answer to a message: the reply, and what becomes of the settings and the page.
 ghost use mathlib.Core.Path.{_≡_};
-ghost use mathlib.Core.Bool.{true, false, _&&_, not};
+ghost use mathlib.Core.Bool.{true, false};
 ghost use mathlib.Core.List.{_++_};
 ghost use Prim.Native.Nat.{_+_, _-_, _≤_, _<_};
-ghost use lib.Dec.{eqb};
 ghost use lib.ListN.{length, take, drop};
 ghost use Rattle.page.specs.Page.{isThere};
 ghost use Rattle.message.specs.Fields.{fieldsOf};
@@ -12,14 +11,15 @@ ghost use Rattle.command.specs.Answer.{loadedFrom, savedOn, pageAccess, 
 ghost use Rattle.command.specs.Command.{valueFor, commandsOf};
 ghost use Rattle.command.specs.Effects.{Fits, functionEffect};
 ghost use Rattle.command.specs.Errors.{fieldsRefused};
-ghost use Rattle.command.specs.Outcome.{receivedOf, effectOutcome, fieldOutcome, fieldsOutcome};
+ghost use Rattle.command.specs.Outcome.{receivedOf, denialOf, effectOutcome, fieldWith};
 ghost use Rattle.command.specs.Handle.{fieldsIn, commandOutcome};
-ghost use Rattle.command.specs.Place.{stateOf, placed, openedOutcome};
+ghost use Rattle.command.specs.Place.{stateOf, placed, fieldsWith, rightsBehind, openedOutcome};
 use crate::command::Command;
 use crate::command::Subject;
 use crate::command::command_at;
 use crate::command::count_of;
 use crate::command::subject_of;
+use crate::errors::denial_of;
 use crate::errors::field_error;
 use crate::errors::value_for;
 use crate::fields::command_error;
@@ -30,6 +30,7 @@ use crate::number::open_message;
 use crate::place::Progress;
 use crate::place::put_row;
 use crate::place::put_value;
+use crate::rights::Rights;
 use crate::settings::Settings;
 use crate::settings::looked_up;
 use message::byte_over;
@@ -91,19 +92,13 @@ fn obey(c: Command, setting: Setting, p: Progress, room: &mut [u8], page: &mut [
     }
 }
 
-// Answers one field: puts its row behind those before it and, where a save is accepted, writes the page. `guarded`: it came on port
-// 0 without a number.
-fn answer_field(
-    guarded: bool,
-    c: Command,
-    p: Progress,
-    room: &mut [u8],
-    page: &mut [u8],
-) -> Progress
+// Answers one field, where functions 1, 3, 4 and 5 have the error `denial`: puts its row behind those before it and, where a save is
+// accepted, writes the page.
+fn answer_field(denial: u8, c: Command, p: Progress, room: &mut [u8], page: &mut [u8]) -> Progress
     requires { ⌜ p .end + 10 ≤ length (now room) ⌝ }
-    ensures { λ r. ⌜ record { done = r; room = now (room .exit); page = now (page .exit) } ≡ placed p (fieldOutcome pageAccess guarded (stateOf p (now (page .entry))) c) (now (room .entry)) ⌝ }
+    ensures { λ r. ⌜ record { done = r; room = now (room .exit); page = now (page .exit) } ≡ placed p (fieldWith pageAccess denial (stateOf p (now (page .entry))) c) (now (room .entry)) ⌝ }
 {
-    let error = field_error(guarded, c, page);
+    let error = field_error(denial, c, page);
     let q = put_row(c.code, error, p, room);
     if error != 0 {
         return q;
@@ -117,7 +112,7 @@ fn answer_field(
 
 // Answers the fields that fill the bytes `from..to` of `held` and then `chunk`, of a command of type `kind`.
 fn answer_fields(
-    guarded: bool,
+    denial: u8,
     held: &[u8],
     chunk: &[u8],
     kind: u8,
@@ -128,13 +123,13 @@ fn answer_fields(
     page: &mut [u8],
 ) -> Progress
     requires { ⌜ (from ≤ to) × (to < 65536) × (to ≤ length (now held) + length (now chunk)) × (fieldsRefused (fieldsOf (drop from (take to (now held ++ now chunk)))) ≡ false) × (start .end + 160 ≤ length (now room)) ⌝ }
-    ensures { λ r. ⌜ record { done = r; room = now (room .exit); page = now (page .exit) } ≡ placed start (fieldsOutcome pageAccess guarded (stateOf start (now (page .entry))) (commandsOf kind (fieldsIn (fieldsOf (drop from (take to (now (held .entry) ++ now (chunk .entry)))))))) (now (room .entry)) ⌝ }
+    ensures { λ r. ⌜ record { done = r; room = now (room .exit); page = now (page .exit) } ≡ placed start (fieldsWith denial (stateOf start (now (page .entry))) (commandsOf kind (fieldsIn (fieldsOf (drop from (take to (now (held .entry) ++ now (chunk .entry)))))))) (now (room .entry)) ⌝ }
 {
     let mut at = from;
     let mut p = start;
     while at < to {
         let c = command_at(held, chunk, kind, at);
-        p = answer_field(guarded, c, p, room, page);
+        p = answer_field(denial, c, p, room, page);
         at += 2 + count_of(c.size);
     }
     p
@@ -174,9 +169,21 @@ fn sealed(kind: u8, p: Progress, room: &mut [u8]) -> Answer
     }
 }
 
-// Answers the command of type `kind` whose fields are to fill the bytes `from..to` of `held` and then `chunk`.
+// The error of functions 1, 3, 4 and 5 of a command: behind a number that was spent they are allowed.
+fn denial_behind(numbered: bool, rights: Rights, page: &[u8]) -> u8
+    ensures { λ r. ⌜ r ≡ denialOf pageAccess (rightsBehind numbered rights) (now (page .entry)) ⌝ }
+{
+    if numbered {
+        return 0;
+    }
+    denial_of(rights, page)
+}
+
+// Answers the command of type `kind` whose fields are to fill the bytes `from..to` of `held` and then `chunk`. The page's number is
+// looked at once for all of them, which do not change it.
 fn answer_command(
-    guarded: bool,
+    rights: Rights,
+    numbered: bool,
     held: &[u8],
     chunk: &[u8],
     kind: u8,
@@ -187,26 +194,20 @@ fn answer_command(
     page: &mut [u8],
 ) -> Progress
     requires { ⌜ (from ≤ to) × (to < 65536) × (to ≤ from + (length (now held) + length (now chunk) - from)) × (start .end + 160 ≤ length (now room)) ⌝ }
-    ensures { λ r. ⌜ record { done = r; room = now (room .exit); page = now (page .exit) } ≡ placed start (commandOutcome pageAccess guarded (stateOf start (now (page .entry))) kind (drop from (take to (now (held .entry) ++ now (chunk .entry))))) (now (room .entry)) ⌝ }
+    ensures { λ r. ⌜ record { done = r; room = now (room .exit); page = now (page .exit) } ≡ placed start (commandOutcome pageAccess (rightsBehind numbered rights) (stateOf start (now (page .entry))) kind (drop from (take to (now (held .entry) ++ now (chunk .entry))))) (now (room .entry)) ⌝ }
 {
     let whole_error = command_error(held, chunk, kind, from, to);
     if whole_error != 0 {
         return put_row(echo_of(held, chunk, from, to), whole_error, start, room);
     }
-    answer_fields(guarded, held, chunk, kind, from, to, start, room, page)
-}
-
-// Whether functions 1, 3, 4 and 5 may need a number: on port 0, where the command has none.
-fn is_guarded(port: u8, numbered: bool) -> bool
-    ensures { λ r. ⌜ r ≡ eqb port 0 && not numbered ⌝ }
-{
-    if port == 0 { !numbered } else { false }
+    let denial = denial_behind(numbered, rights, page);
+    answer_fields(denial, held, chunk, kind, from, to, start, room, page)
 }
 
 // Answers what a message was opened to, whose payload ends at `to`: one row with its error, or the command in it. That a numbered one
 // is answered here too, and not by a call of its own, lets the compiler make one function of all this.
 fn answer_opened(
-    port: u8,
+    rights: Rights,
     held: &[u8],
     chunk: &[u8],
     o: Opened,
@@ -216,23 +217,34 @@ fn answer_opened(
     page: &mut [u8],
 ) -> Progress
     requires { ⌜ (o .error ≡ 0 → (o .from ≤ to) × (to ≤ o .from + (length (now held) + length (now chunk) - o .from))) × (to < 65536) × (start .end + 160 ≤ length (now room)) ⌝ }
-    ensures { λ r. ⌜ record { done = r; room = now (room .exit); page = now (page .exit) } ≡ placed start (openedOutcome port o (stateOf start (now (page .entry))) (drop (o .from) (take to (now (held .entry) ++ now (chunk .entry))))) (now (room .entry)) ⌝ }
+    ensures { λ r. ⌜ record { done = r; room = now (room .exit); page = now (page .exit) } ≡ placed start (openedOutcome rights o (stateOf start (now (page .entry))) (drop (o .from) (take to (now (held .entry) ++ now (chunk .entry))))) (now (room .entry)) ⌝ }
 {
     let refusal = o.error;
     let from = o.from;
     if refusal != 0 {
         return put_row(echo_of(held, chunk, from, to), refusal, start, room);
     }
-    let guarded = is_guarded(port, o.numbered);
-    answer_command(guarded, held, chunk, o.kind, from, to, start, room, page)
+    answer_command(
+        rights,
+        o.numbered,
+        held,
+        chunk,
+        o.kind,
+        from,
+        to,
+        start,
+        room,
+        page,
+    )
 }
 
-// Answers the message at the front of `held` and then `chunk`, which came on `port`. The settings, the room and the page are
+// Answers the message at the front of `held` and then `chunk`, which has these rights on its port. The
+// settings, the room and the page are
 // taken as they are: a feed has tested them. In a room under 166 bytes nothing is done. A message that is damaged, or of a type
 // other than 01, 02 and 7C, is answered by its type and first payload byte alone, so that noise and data messages are answered
 // without a look at the rest.
 pub fn answer_over(
-    port: u8,
+    rights: Rights,
     held: &[u8],
     chunk: &[u8],
     good: bool,
@@ -240,7 +252,7 @@ pub fn answer_over(
     room: &mut [u8],
     page: &mut [u8],
 ) -> Answer
-    ensures { λ r. ⌜ record { answer = r; room = now (room .exit); page = now (page .exit) } ≡ answering port (receivedOf good (now (held .entry) ++ now (chunk .entry))) w (now (room .entry)) (now (page .entry)) ⌝ }
+    ensures { λ r. ⌜ record { answer = r; room = now (room .exit); page = now (page .exit) } ≡ answering rights (receivedOf good (now (held .entry) ++ now (chunk .entry))) w (now (room .entry)) (now (page .entry)) ⌝ }
 {
     if room.len() < 166 {
         return Answer {
@@ -250,12 +262,12 @@ pub fn answer_over(
     }
     let kind = byte_over(held, chunk, 2);
     let to = payload_end(held, chunk);
-    let o = open_message(held, chunk, good, kind, to, page);
+    let o = open_message(rights, held, chunk, good, kind, to, page);
     let start = Progress {
         end: 4,
         saved: o.numbered,
         settings: w,
     };
-    let p = answer_opened(port, held, chunk, o, to, start, room, page);
+    let p = answer_opened(rights, held, chunk, o, to, start, room, page);
     sealed(kind, p, room)
 }

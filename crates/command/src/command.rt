@@ -47,20 +47,23 @@ fn data_byte(held: &[u8], chunk: &[u8], at: usize, n: usize, i: usize) -> u8
     }
 }
 
-// The field whose code stands at `at` in `held` and then `chunk`.
+// The field whose code stands at `at` in `held` and then `chunk`. Its bytes are read in the order that they stand in: with the code and
+// the function read behind the value's first byte, a call takes 16 bytes more of stack (bin/frames).
 pub(crate) fn command_at(held: &[u8], chunk: &[u8], kind: u8, at: usize) -> Command
     requires { ⌜ at < 65536 ⌝ }
     ensures { λ r. ⌜ r ≡ commandOf kind (fieldAt at (now (held .entry) ++ now (chunk .entry))) ⌝ }
 {
+    let code = byte_over(held, chunk, at);
     let size = byte_over(held, chunk, at + 1);
     let n = count_of(size);
     let data = at + 2;
+    let function = data_byte(held, chunk, data, n, 0);
     let first = data_byte(held, chunk, data, n, 1);
     Command {
         kind,
-        code: byte_over(held, chunk, at),
+        code,
         size,
-        function: data_byte(held, chunk, data, n, 0),
+        function,
         first,
         all: word::word_of(
             first,

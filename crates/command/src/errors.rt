@@ -8,13 +8,14 @@ ghost use Rattle.page.specs.Page.{isThere};
 ghost use Rattle.page.specs.Settings.{storable, notOnThisBoard};
 ghost use Rattle.message.specs.Whole.{refuse};
 ghost use Rattle.command.specs.Answer.{loadedFrom, numberOn, pageAccess};
-ghost use Rattle.command.specs.Errors.{isUnknown, isFunction, sizeRight, functionRight, fieldWrong, notOnBoard, alters, isKind, fieldError};
-ghost use Rattle.command.specs.Outcome.{needsNumber};
+ghost use Rattle.command.specs.Errors.{isUnknown, isFunction, sizeRight, functionRight, fieldWrong, notOnBoard, alters, denied, isKind, fieldError};
+ghost use Rattle.command.specs.Outcome.{denialOf};
 ghost use Rattle.command.specs.declared.command.Subject.the-variants.{Setting as About};
 use crate::command::Command;
 use crate::command::Subject;
 use crate::command::count_of;
 use crate::command::subject_of;
+use crate::rights::Rights;
 use crate::settings::looked_up;
 use crate::settings::wide;
 use page::Setting;
@@ -156,29 +157,39 @@ fn keeps_number(page: &[u8]) -> bool
     }
 }
 
-// Whether the field needs a number: it came on port 0 without one (`guarded`), and the page keeps one. The page is looked at last.
-fn number_missing(guarded: bool, subject: Subject, c: Command, page: &[u8]) -> bool
-    ensures { λ r. ⌜ r ≡ needsNumber pageAccess guarded (now (page .entry)) && alters subject c ⌝ }
+// The error of functions 1, 3, 4 and 5 under these rights, 0 where they are allowed.
+pub(crate) fn denial_of(rights: Rights, page: &[u8]) -> u8
+    ensures { λ r. ⌜ r ≡ denialOf pageAccess rights (now (page .entry)) ⌝ }
 {
-    if !guarded {
-        return false;
+    if rights.readonly {
+        return 7;
     }
-    if !alters(subject, c) {
-        return false;
+    if !rights.guarded {
+        return 0;
     }
-    keeps_number(page)
+    if keeps_number(page) { 5 } else { 0 }
 }
 
-// The error of one field.
-pub(crate) fn field_error(guarded: bool, c: Command, page: &[u8]) -> u8
-    ensures { λ r. ⌜ r ≡ fieldError (needsNumber pageAccess guarded (now (page .entry))) (loadedFrom (now (page .entry))) c ⌝ }
+// Whether a field asks for such a function where that is an error.
+fn is_denied(denial: u8, subject: Subject, c: Command) -> bool
+    ensures { λ r. ⌜ r ≡ denied denial subject c ⌝ }
+{
+    if denial == 0 {
+        return false;
+    }
+    alters(subject, c)
+}
+
+// The error of one field, where functions 1, 3, 4 and 5 have the error `denial`.
+pub(crate) fn field_error(denial: u8, c: Command, page: &[u8]) -> u8
+    ensures { λ r. ⌜ r ≡ fieldError denial (loadedFrom (now (page .entry))) c ⌝ }
 {
     let subject = subject_of(c.kind, c.code);
     if is_unknown(subject) {
         return 3;
     }
-    if number_missing(guarded, subject, c, page) {
-        return 5;
+    if is_denied(denial, subject, c) {
+        return denial;
     }
     own_error(subject, c, page)
 }

@@ -6,6 +6,7 @@ mod errors;
 mod fields;
 mod number;
 mod place;
+mod rights;
 mod settings;
 
 pub use answer::Answer;
@@ -13,6 +14,7 @@ pub use answer::answer_over;
 pub use command::Command;
 pub use command::Subject;
 pub use command::subject_of;
+pub use rights::Rights;
 pub use settings::Settings;
 pub use settings::settings_from;
 pub use settings::settings_usable;

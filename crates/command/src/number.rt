@@ -7,6 +7,7 @@ ghost use lib.ListN.{length, take, drop};
 ghost use Rattle.command.specs.Answer.{numberOn};
 ghost use Rattle.command.specs.Numbers.{isFresh, numberOf, numberError};
 ghost use Rattle.command.specs.Place.{openingOf};
+use crate::rights::Rights;
 use message::byte_over;
 use page::Stored;
 
@@ -33,11 +34,14 @@ fn number_in(held: &[u8], chunk: &[u8], to: usize) -> u32
     )
 }
 
-// The error of the number, whose payload ends at `to`: 0 where it is fresh.
-fn number_error(held: &[u8], chunk: &[u8], to: usize, page: &[u8]) -> u8
+// The error of the number, whose payload ends at `to`: 0 where it is allowed and fresh.
+fn number_error(rights: Rights, held: &[u8], chunk: &[u8], to: usize, page: &[u8]) -> u8
     requires { ⌜ (4 ≤ to) × (to ≤ 4 + (length (now held) + length (now chunk) - 4)) ⌝ }
-    ensures { λ r. ⌜ r ≡ numberError (numberOn (now (page .entry))) (drop 4 (take to (now (held .entry) ++ now (chunk .entry)))) ⌝ }
+    ensures { λ r. ⌜ r ≡ numberError rights (numberOn (now (page .entry))) (drop 4 (take to (now (held .entry) ++ now (chunk .entry)))) ⌝ }
 {
+    if rights.readonly {
+        return 7;
+    }
     if to < 9 {
         return 4;
     }
@@ -75,6 +79,7 @@ fn unnumbered(error: u8, kind: u8, from: usize) -> Opened
 // Opens the message of this type at the front of `held` and then `chunk`, whose payload ends at `to`: in type 7C the number is written
 // to the page, and the command stands behind it.
 pub(crate) fn open_message(
+    rights: Rights,
     held: &[u8],
     chunk: &[u8],
     good: bool,
@@ -83,7 +88,7 @@ pub(crate) fn open_message(
     page: &mut [u8],
 ) -> Opened
     requires { ⌜ (4 ≤ to) × (to ≤ 4 + (length (now held) + length (now chunk) - 4)) ⌝ }
-    ensures { λ r. ⌜ record { opened = r; page = now (page .exit) } ≡ openingOf good kind (drop 4 (take to (now (held .entry) ++ now (chunk .entry)))) (now (page .entry)) ⌝ }
+    ensures { λ r. ⌜ record { opened = r; page = now (page .exit) } ≡ openingOf rights good kind (drop 4 (take to (now (held .entry) ++ now (chunk .entry)))) (now (page .entry)) ⌝ }
 {
     if !good {
         return unnumbered(1, kind, 4);
@@ -91,7 +96,7 @@ pub(crate) fn open_message(
     if kind != 0x7C {
         return unnumbered(0, kind, 4);
     }
-    let error = number_error(held, chunk, to, page);
+    let error = number_error(rights, held, chunk, to, page);
     if error != 0 {
         return unnumbered(error, kind, 9);
     }

@@ -1,10 +1,9 @@
 -- What the command writers write is obeyed by the board that it is fed to.
-use Prim.Native.Nat.{ℕ, zero, suc, _≤_}
+use Prim.Native.Nat.{ℕ, _≤_}
 use native.Mathlib.Omega.{arith}
 use mathlib.Core.Path.{_≡_, refl, ap, sym, _∙_}
-use mathlib.Core.Bool.{true, false, or-false}
+use mathlib.Core.Bool.{Bool, true, false, or-false}
 use mathlib.Core.List.{List, [], _∷_, append-nil}
-use lib.Dec.{eqb}
 use lib.ListN.{length}
 use borrow.Author.Tests.{le-ltb}
 use Rattle.message.specs.Message.{messageOf}
@@ -13,9 +12,12 @@ use Rattle.message.proofs.RoundTrips.{written-is-read}
 use Rattle.page.specs.declared.setting.Stored.{Stored}
 use Rattle.page.specs.declared.setting.Stored.the-variants.{Absent, Value}
 use Rattle.page.specs.Page.{isThere}
+use Rattle.message.specs.Whole.{refuse}
+use Rattle.command.specs.declared.rights.Rights.{Rights}
+use Rattle.command.specs.Rights.{allRights}
 use Rattle.command.specs.Errors.{isKind}
 use Rattle.command.specs.Numbers.{numberedKind}
-use Rattle.command.specs.Outcome.{State, Outcome, Received, idle, thenOutcome, receivedOf, needsNumber}
+use Rattle.command.specs.Outcome.{State, Outcome, Received, idle, thenOutcome, receivedOf, denialOf}
 use Rattle.command.specs.Handle.{marked, spent, messageOutcome}
 use Rattle.command.specs.Answer.{replyRoom, numberOn, pageAccess, Answering, answerWith, answering}
 use Rattle.command.proofs.Numbers.{without-number}
@@ -24,6 +26,7 @@ use Rattle.client.specs.Commands.{Obeyed, ObeyedNumbered, askedOutcome, askedOu
 use Rattle.client.proofs.Obedience.{fields-some, fields-short, written-is-obeyed, numbered-is-obeyed, subject-same, one-is-written}
 use Rattle.stream.proofs.Bools.{differ}
 use Rattle.board.specs.declared.board.Board.{Board}
+use Rattle.board.specs.Profile.{rightsOf}
 use Rattle.board.specs.Feed.{feedOn, feedOf}
 use Rattle.board.specs.Alone.{Ready, answeredStep}
 use Rattle.board.proofs.Alone.{fed-alone}
@@ -32,25 +35,29 @@ use Rattle.exchange.specs.Theorems.{stateOf, answeredWith, CallObeys, wr
 not-a5 : (kind : ℕ) → isKind kind ≡ true → kind ≡ 0xA5 → ⊥
 not-a5 kind k e = differ (sym (rw e at k))
 
--- Where no number is needed, a port handles a message as port 1 does.
-as-second : (port : ℕ) (x : State (List ℕ)) (m : Received) → port ≤ 1 → needsNumber pageAccess (eqb port 0) (x .page) ≡ false
-    → messageOutcome pageAccess port x m ≡ messageOutcome pageAccess 1 x m
-as-second zero x m h e = without-number 0 x m (absent (numberOn (x .page)) e)
+-- Where nothing is denied, a message is handled as with all rights.
+undenied : (rights : Rights) (x : State (List ℕ)) (m : Received) → denialOf pageAccess rights (x .page) ≡ 0
+    → messageOutcome pageAccess rights x m ≡ messageOutcome pageAccess allRights x m
+undenied rights x m e = go (rights .guarded) (rights .readonly) e
   where
-    absent : (s : Stored) → isThere s ≡ false → s ≡ Absent
+    absent : (s : Stored) → refuse (isThere s) 5 0 ≡ 0 → s ≡ Absent
     absent Absent e = refl
-    absent (Value n) e = differ e
-as-second (suc zero) x m h e = refl
-as-second (suc (suc p)) x m h e = absurd (omega arith)
+    absent (Value n) e = absurd (omega (arith, e))
+
+    go : (g r : Bool) → denialOf pageAccess (record { guarded = g; readonly = r }) (x .page) ≡ 0
+        → messageOutcome pageAccess (record { guarded = g; readonly = r }) x m ≡ messageOutcome pageAccess allRights x m
+    go g true e = absurd (omega (arith, e))
+    go false false e = refl
+    go true false e = without-number x m (absent (numberOn (x .page)) e)
 
 -- A message of at most 255 payload bytes, fed alone and handled to this outcome.
 module _ (port : ℕ) (b : Board) (room page : List ℕ) (r : Ready port b room page) (kind : ℕ) (payload : List ℕ) (not-a5 : kind ≡ 0xA5 → ⊥) (few : length payload ≤ 255) where
-  answered : (o : Outcome (List ℕ)) → messageOutcome pageAccess port (stateOf b page) (receivedOf true (messageOf kind payload)) ≡ o
+  answered : (o : Outcome (List ℕ)) → messageOutcome pageAccess (rightsOf (b .readonly) port) (stateOf b page) (receivedOf true (messageOf kind payload)) ≡ o
       → feedOf port b (messageOf kind payload) room page ≡ answeredWith port b room kind (messageOf kind payload) o
   unfolding answering receivedOf
   answered o e =
       let t : RoundTrip kind payload = written-is-read kind payload few in
-      let a : answering port (receivedOf true (messageOf kind payload)) (b .settings) room page ≡ answerWith kind o room =
+      let a : answering (rightsOf (b .readonly) port) (receivedOf true (messageOf kind payload)) (b .settings) room page ≡ answerWith kind o room =
       rw (e, le-ltb (length room) replyRoom (r .large-room), t .kind-back) in
       fed-alone port b room page kind payload r not-a5 few ∙ ap (λ (a : Answering). feedOn (answeredStep (messageOf kind payload) a) port b) a
 
@@ -60,15 +67,15 @@ call-obeys port b room page kind asks r f h l n =
     let s : length p ≤ 255 = omega (arith, fields-short kind asks n) in
     let o : Obeyed kind asks = written-is-obeyed kind asks h l n in
     answered port b room page r kind p (not-a5 kind (fields-some kind asks h l .0)) s (askedOutcomes pageAccess kind (stateOf b page) asks)
-    (as-second port (stateOf b page) (receivedOf true (messageOf kind p)) (r .right-port) f ∙ o .outcome (List ℕ) pageAccess (stateOf b page))
+    (undenied (rightsOf (b .readonly) port) (stateOf b page) (receivedOf true (messageOf kind p)) f ∙ o .outcome (List ℕ) pageAccess (stateOf b page))
 
 pub numbered-call-obeys : NumberedCallObeys
-numbered-call-obeys port b room page number kind asks r s f h l n =
+numbered-call-obeys port b room page number kind asks r s allowed f h l n =
     let p : List ℕ = numberedPayload number kind (askedFields kind asks) in
     let q : length p ≤ 255 = omega (arith, fields-short kind asks n) in
     let o : ObeyedNumbered number kind asks = numbered-is-obeyed number kind asks s h l n in
     answered port b room page r numberedKind p (λ e. absurd (omega arith)) q (marked (askedOutcomes pageAccess kind (spent pageAccess (stateOf b page) number) asks))
-    (o .outcome (List ℕ) pageAccess port (stateOf b page) f)
+    (o .outcome (List ℕ) pageAccess (rightsOf (b .readonly) port) (stateOf b page) allowed f)
 
 -- One after nothing is that one.
 then-idle : {P : Type 0} (o : Outcome P) → thenOutcome o (idle (o .next)) ≡ o
@@ -90,11 +97,11 @@ writer-obeyed port b room page code function value r f ok =
     rw (w .written) (c ∙ ap (answeredWith port b room k (messageOf k (askedFields k (a ∷ [])))) (one-outcome (stateOf b page) code function value ok))
 
 pub numbered-writer-obeyed : NumberedWriterObeyed
-numbered-writer-obeyed port b room page number code function value r s f ok =
+numbered-writer-obeyed port b room page number code function value r s allowed f ok =
     let k : ℕ = kindFor (codeSubject code) in
     let a : Asked = record { code = code; function = function; value = value } in
     let w : OneAsked code function value = one-is-written code function value ok in
     let m : List ℕ = messageOf numberedKind (numberedPayload number k (askedFields k (a ∷ []))) in
-    let c = numbered-call-obeys port b room page number k (a ∷ []) r s f (w .right) (omega arith) (omega arith) in
+    let c = numbered-call-obeys port b room page number k (a ∷ []) r s allowed f (w .right) (omega arith) (omega arith) in
     let o = one-outcome (spent pageAccess (stateOf b page) number) code function value ok in
     rw (w .numbered number) (c ∙ ap (λ (o : Outcome (List ℕ)). answeredWith port b room numberedKind m (marked o)) o)

@@ -24,19 +24,20 @@ undrained-kept (suc p) silent n u = refl
 
 pub without-restarts : WithoutRestarts
 unfolding historyFrom run
-without-restarts S step restarted s [] = refl
-without-restarts S step restarted s (c ∷ cs) =
-    ap (λ (r : Run S). record { answers = step s c .answer ∷ r .answers; final = r .final }) (without-restarts S step restarted (step s c .state) cs)
+without-restarts Profile S step restarted profile s [] = refl
+without-restarts Profile S step restarted profile s (c ∷ cs) =
+    ap (λ (r : Run S). record { answers = step profile s c .answer ∷ r .answers; final = r .final })
+    (without-restarts Profile S step restarted profile (step profile s c .state) cs)
 
-drained-acts : (u : Undrained) (cs : List Call) (answers : List Answer) → drainedActs u (calls cs) answers ≡ drainedFrom u cs answers
+drained-acts : (Profile : Type 0) (u : Undrained) (cs : List Call) (answers : List Answer) → drainedActs {Profile = Profile} u (calls cs) answers ≡ drainedFrom u cs answers
 unfolding drainedActs drainedFrom
-drained-acts u [] answers = refl
-drained-acts u (c ∷ cs) [] = refl
-drained-acts u (c ∷ cs) (a ∷ answers) =
-    ap (unlessEarly (early (c .input) (a .number) (undrainedOf (c .port) u))) (drained-acts (undrainedAfter c (a .number) u) cs answers)
+drained-acts Profile u [] answers = refl
+drained-acts Profile u (c ∷ cs) [] = refl
+drained-acts Profile u (c ∷ cs) (a ∷ answers) =
+    ap (unlessEarly (early (c .input) (a .number) (undrainedOf (c .port) u))) (drained-acts Profile (undrainedAfter c (a .number) u) cs answers)
 
 pub drained-without-restarts : DrainedWithoutRestarts
-drained-without-restarts cs answers = drained-acts noSilence cs answers
+drained-without-restarts Profile cs answers = drained-acts Profile noSilence cs answers
 
 -- ---- R relates two states after a history; what its silences left undrained counts.
 module _ {S T : Type 0} (R : Undrained → S → T → Type 0) where
@@ -49,49 +50,49 @@ module _ {S T : Type 0} (R : Undrained → S → T → Type 0) where
     pub left : Undrained
     pub final : R left (s .final) (t .final)
 
-  module _ (f : S → Call → Step S) (g : T → Call → Step T) (a : S → S) (b : T → T)
-      (same : (u : Undrained) (s : S) (t : T) (c : Call) → R u s t → early (c .input) (f s c .answer .number) (undrainedOf (c .port) u) ≡ false
-      → Stepped (undrainedAfter c (f s c .answer .number) u) (f s c) (g t c))
+  module _ {Profile : Type 0} (f : Profile → S → Call → Step S) (g : Profile → T → Call → Step T) (a : S → S) (b : T → T)
+      (same : (p : Profile) (u : Undrained) (s : S) (t : T) (c : Call) → R u s t → early (c .input) (f p s c .answer .number) (undrainedOf (c .port) u) ≡ false
+      → Stepped (undrainedAfter c (f p s c .answer .number) u) (f p s c) (g p t c))
       (again : (u : Undrained) (s : S) (t : T) → R u s t → R noSilence (a s) (b t)) where
-    pub history-related : (u : Undrained) (s : S) (t : T) (acts : List (Act Call)) → R u s t → drainedActs u acts (historyFrom f a s acts .answers) ≡ true
-        → Agreed (historyFrom f a s acts) (historyFrom g b t acts)
+    pub history-related : (p : Profile) (u : Undrained) (s : S) (t : T) (acts : List (Act Profile Call)) → R u s t → drainedActs u acts (historyFrom f a p s acts .answers) ≡ true
+        → Agreed (historyFrom f a p s acts) (historyFrom g b p t acts)
     unfolding historyFrom drainedActs
-    history-related u s t [] r d = record { answers = refl; left = u; final = r }
-    history-related u s t (restart ∷ acts) r d = history-related noSilence (a s) (b t) acts (again u s t r) d
-    history-related u s t (call c ∷ acts) r d =
-        let n : ℕ = f s c .answer .number in
+    history-related p u s t [] r d = record { answers = refl; left = u; final = r }
+    history-related p u s t (restart q ∷ acts) r d = history-related q noSilence (a s) (b t) acts (again u s t r) d
+    history-related p u s t (call c ∷ acts) r d =
+        let n : ℕ = f p s c .answer .number in
         let h =
-        unless-early (early (c .input) n (undrainedOf (c .port) u)) (drainedActs (undrainedAfter c n u) acts (historyFrom f a (f s c .state) acts .answers)) d in
-        let one : Stepped (undrainedAfter c n u) (f s c) (g t c) = same u s t c r (h .0) in
-        let rest = history-related (undrainedAfter c n u) (f s c .state) (g t c .state) acts (one .state) (h .1) in
+        unless-early (early (c .input) n (undrainedOf (c .port) u)) (drainedActs (undrainedAfter c n u) acts (historyFrom f a p (f p s c .state) acts .answers)) d in
+        let one : Stepped (undrainedAfter c n u) (f p s c) (g p t c) = same p u s t c r (h .0) in
+        let rest = history-related p (undrainedAfter c n u) (f p s c .state) (g p t c .state) acts (one .state) (h .1) in
         record { answers = cc (one .answer, rest .answers); left = rest .left; final = rest .final }
 
     -- Where both also take a feed early at the same time, the answers of either tell whether a history is drained.
-    pub history-drained : ((u : Undrained) (s : S) (t : T) (c : Call) → R u s t
-        → early (c .input) (g t c .answer .number) (undrainedOf (c .port) u) ≡ early (c .input) (f s c .answer .number) (undrainedOf (c .port) u))
-        → (u : Undrained) (s : S) (t : T) (acts : List (Act Call)) → R u s t
-        → drainedActs u acts (historyFrom g b t acts .answers) ≡ drainedActs u acts (historyFrom f a s acts .answers)
+    pub history-drained : ((p : Profile) (u : Undrained) (s : S) (t : T) (c : Call) → R u s t
+        → early (c .input) (g p t c .answer .number) (undrainedOf (c .port) u) ≡ early (c .input) (f p s c .answer .number) (undrainedOf (c .port) u))
+        → (p : Profile) (u : Undrained) (s : S) (t : T) (acts : List (Act Profile Call)) → R u s t
+        → drainedActs u acts (historyFrom g b p t acts .answers) ≡ drainedActs u acts (historyFrom f a p s acts .answers)
     unfolding historyFrom drainedActs
-    history-drained both u s t [] r = refl
-    history-drained both u s t (restart ∷ acts) r = history-drained both noSilence (a s) (b t) acts (again u s t r)
-    history-drained both u s t (call c ∷ acts) r =
-        go (early (c .input) (f s c .answer .number) (undrainedOf (c .port) u)) refl
-        (λ (one : Stepped (undrainedAfter c (f s c .answer .number) u) (f s c) (g t c)).
-        history-drained both (undrainedAfter c (f s c .answer .number) u) (f s c .state) (g t c .state) acts (one .state))
+    history-drained both p u s t [] r = refl
+    history-drained both p u s t (restart q ∷ acts) r = history-drained both q noSilence (a s) (b t) acts (again u s t r)
+    history-drained both p u s t (call c ∷ acts) r =
+        go (early (c .input) (f p s c .answer .number) (undrainedOf (c .port) u)) refl
+        (λ (one : Stepped (undrainedAfter c (f p s c .answer .number) u) (f p s c) (g p t c)).
+        history-drained both p (undrainedAfter c (f p s c .answer .number) u) (f p s c .state) (g p t c .state) acts (one .state))
       where
-        go : (e : Bool) → early (c .input) (f s c .answer .number) (undrainedOf (c .port) u) ≡ e
-            → (Stepped (undrainedAfter c (f s c .answer .number) u) (f s c) (g t c)
-            → drainedActs (undrainedAfter c (f s c .answer .number) u) acts (historyFrom g b (g t c .state) acts .answers)
-            ≡ drainedActs (undrainedAfter c (f s c .answer .number) u) acts (historyFrom f a (f s c .state) acts .answers))
-            → unlessEarly (early (c .input) (g t c .answer .number) (undrainedOf (c .port) u))
-            (drainedActs (undrainedAfter c (g t c .answer .number) u) acts (historyFrom g b (g t c .state) acts .answers))
-            ≡ unlessEarly (early (c .input) (f s c .answer .number) (undrainedOf (c .port) u))
-            (drainedActs (undrainedAfter c (f s c .answer .number) u) acts (historyFrom f a (f s c .state) acts .answers))
-        go true e ih = rw (both u s t c r, e)
+        go : (e : Bool) → early (c .input) (f p s c .answer .number) (undrainedOf (c .port) u) ≡ e
+            → (Stepped (undrainedAfter c (f p s c .answer .number) u) (f p s c) (g p t c)
+            → drainedActs (undrainedAfter c (f p s c .answer .number) u) acts (historyFrom g b p (g p t c .state) acts .answers)
+            ≡ drainedActs (undrainedAfter c (f p s c .answer .number) u) acts (historyFrom f a p (f p s c .state) acts .answers))
+            → unlessEarly (early (c .input) (g p t c .answer .number) (undrainedOf (c .port) u))
+            (drainedActs (undrainedAfter c (g p t c .answer .number) u) acts (historyFrom g b p (g p t c .state) acts .answers))
+            ≡ unlessEarly (early (c .input) (f p s c .answer .number) (undrainedOf (c .port) u))
+            (drainedActs (undrainedAfter c (f p s c .answer .number) u) acts (historyFrom f a p (f p s c .state) acts .answers))
+        go true e ih = rw (both p u s t c r, e)
         go false e ih =
-            let one : Stepped (undrainedAfter c (f s c .answer .number) u) (f s c) (g t c) = same u s t c r e in
-            let n : f s c .answer .number ≡ g t c .answer .number = cc (one .answer) in
-            rw (both u s t c r, e, ← n) (ih one)
+            let one : Stepped (undrainedAfter c (f p s c .answer .number) u) (f p s c) (g p t c) = same p u s t c r e in
+            let n : f p s c .answer .number ≡ g p t c .answer .number = cc (one .answer) in
+            rw (both p u s t c r, e, ← n) (ih one)
 
 -- ---- Two ports: R relates what is kept of a port, L the values.
 module _ {A B X W : Type 0} (R : Bool → A → B → Type 0) (L : X → W → Type 0) where

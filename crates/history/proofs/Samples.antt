@@ -15,6 +15,7 @@ use Rattle.history.specs.Reckoning.{Outcome, shortest, handleNext, usedU
 use Rattle.history.specs.Program.{passing, heldOn, heldCall, heldStep, heldProgram}
 use Rattle.history.specs.Ports.{unfed, historyOf}
 use Rattle.history.specs.Drained.{drainedFrom, drained}
+use Rattle.history.specs.Interference.{firstCalls}
 use Rattle.history.specs.Restarts.{Act, call, restart, historyFrom, heldHistory, reckonedHistory}
 
 front : List ℕ → Verdict
@@ -68,11 +69,24 @@ told : historyOf 0 unfed feeds answers
 unfolding feeds damaged good answers historyOf
 told = refl
 
--- ---- With a restart: what was held of a message is lost, so that its end is nothing; then a whole one. A start adds ten to the count.
-acts : List (Act Call)
+-- ---- The calls of port 0 in a list.
+first-only : firstCalls feeds
+    ≡ record { port = 0; input = fed (9 ∷ 5 ∷ 3 ∷ 5 ∷ 0 ∷ 1 ∷ 0 ∷ 8 ∷ []); room = 1 }
+    ∷ record { port = 0; input = fed (8 ∷ []); room = 1 }
+    ∷ record { port = 0; input = fed (8 ∷ 5 ∷ []); room = 1 }
+    ∷ []
+unfolding feeds
+first-only = refl
+
+-- ---- With a restart: what was held of a message is lost, so that its end is nothing; then a whole one. A start adds ten to the count, and
+-- a profile is what its messages add beside one.
+counting : ℕ → ℕ → ℕ → Message → Outcome ℕ
+counting profile p w m = record { reply = m .bytes; saved = m .good; next = suc (w + profile) }
+
+acts : List (Act ℕ Call)
 acts =
     call (record { port = 0; input = fed (5 ∷ 0 ∷ []); room = 1 })
-    ∷ restart
+    ∷ restart 100
     ∷ call (record { port = 0; input = fed (1 ∷ []); room = 1 })
     ∷ call (record { port = 0; input = fed (5 ∷ 0 ∷ 1 ∷ []); room = 1 })
     ∷ []
@@ -84,16 +98,16 @@ restarted =
     ∷ record { number = 0; taken = 3; skipped = 0; saved = true; reply = good .bytes; reports = good ∷ [] }
     ∷ []
 
-reckoned-acts : reckonedHistory front count 1 (λ w. w + 10) 0 acts .answers ≡ restarted
-unfolding front count good acts restarted eventsPast shortest handleNext usedUp reckonFeed reckonStep historyFrom reckonedHistory
+reckoned-acts : reckonedHistory front counting 1 (λ w. w + 10) 0 0 acts .answers ≡ restarted
+unfolding front counting good acts restarted eventsPast shortest handleNext usedUp reckonFeed reckonStep historyFrom reckonedHistory
 reckoned-acts = refl
 
-programmed-acts : heldHistory front count 258 1 (λ w. passing) (λ w. w + 10) 0 acts .answers ≡ restarted
-unfolding front count good acts restarted seek heldOn heldCall heldStep historyFrom heldHistory
+programmed-acts : heldHistory front counting 258 1 (λ w. passing) (λ w. w + 10) 0 0 acts .answers ≡ restarted
+unfolding front counting good acts restarted seek heldOn heldCall heldStep historyFrom heldHistory
 programmed-acts = refl
 
-kept-acts : heldHistory front count 258 1 (λ w. passing) (λ w. w + 10) 0 acts .final ≡ record { port0 = []; port1 = []; values = 21 }
-unfolding front count acts seek heldOn heldCall heldStep historyFrom heldHistory
+kept-acts : heldHistory front counting 258 1 (λ w. passing) (λ w. w + 10) 0 0 acts .final ≡ record { port0 = []; port1 = []; values = 121 }
+unfolding front counting acts seek heldOn heldCall heldStep historyFrom heldHistory
 kept-acts = refl
 
 -- ---- A false header that claims 9 bytes more, with a message behind it and the beginning of another; then the line goes quiet. The

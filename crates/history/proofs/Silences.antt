@@ -47,13 +47,13 @@ feedsDrained (c ∷ cs) (a ∷ answers) e =
 
 pub fedActsDrained : FedActsDrained
 unfolding drainedActs
-fedActsDrained [] answers e = refl
-fedActsDrained (restart ∷ acts) answers e = fedActsDrained acts answers e
-fedActsDrained (call c ∷ acts) [] e = refl
-fedActsDrained (call c ∷ acts) (a ∷ answers) e =
+fedActsDrained Profile [] answers e = refl
+fedActsDrained Profile (restart profile ∷ acts) answers e = fedActsDrained Profile acts answers e
+fedActsDrained Profile (call c ∷ acts) [] e = refl
+fedActsDrained Profile (call c ∷ acts) (a ∷ answers) e =
     let b = and-both (isFeed (c .input)) (onlyFedActs acts) e in
     rw (none-waits (c .port), feed-not-early (c .input) (a .number) (b .0), feed-leaves (c .port) (c .input) (a .number) (b .0))
-    (fedActsDrained acts answers (b .1))
+    (fedActsDrained Profile acts answers (b .1))
 
 beginning : {S : Type 0} (step : S → Call → Step S) (u : Undrained) (s : S) (cs ds : List Call)
     → drainedFrom u (cs ++ ds) (run step s (cs ++ ds) .answers) ≡ true → drainedFrom u cs (run step s cs .answers) ≡ true

@@ -18,27 +18,32 @@ use Rattle.history.specs.Reckoning.{Outcome}
 use Rattle.history.specs.Program.{Tests, soughtBy, heldOn, heldCall, heldStep}
 use Rattle.history.specs.Premises.{Handles}
 use Rattle.history.specs.EveryList.{runNumber, Sound}
-use Rattle.history.specs.Restarts.{Act, call, restart, historyFrom, startedOn, heldHistory, RestartsStaySound}
+use Rattle.history.specs.Restarts.{Act, call, restart, historyFrom, startedOn, heldHistory, HandlesIn, RestartsStaySound}
 use Rattle.history.proofs.Soughts.{call-sized, call-starved}
 use Rattle.history.proofs.Tracks.{fits-after}
 
-module _ {front : List ℕ → Verdict} {mostHeld : ℕ} (C : Cutting front mostHeld) {X W : Type 0} {L : X → W → Type 0}
-    {reckoned : ℕ → X → Message → Outcome X} {tests : W → Tests} {handle : ℕ → W → Message → Outcome W}
-    (H : Handles L reckoned tests handle) where
+module _ {X W : Type 0} (mostHeld : ℕ) (L : X → W → Type 0) where
   record Fine (s : State (List ℕ) W) : Type 0 where
     few0 : length (s .port0) ≤ mostHeld
     few1 : length (s .port1) ≤ mostHeld
     values : X
     stored : L values (s .values)
 
-  record FineTurn (t : Turn (List ℕ) W) : Type 0 where
+  pub record FineTurn (t : Turn (List ℕ) W) : Type 0 where
     number : runNumber (t .answer .number) ≡ true
-    few : length (t .port) ≤ mostHeld
+    pub few : length (t .port) ≤ mostHeld
     values : X
     stored : L values (t .values)
 
+  record FineStep (t : Step (State (List ℕ) W)) : Type 0 where
+    number : runNumber (t .answer .number) ≡ true
+    state : Fine (t .state)
+
+module _ {front : List ℕ → Verdict} {mostHeld : ℕ} (C : Cutting front mostHeld) {X W : Type 0} {L : X → W → Type 0}
+    {reckoned : ℕ → X → Message → Outcome X} {tests : W → Tests} {handle : ℕ → W → Message → Outcome W}
+    (H : Handles L reckoned tests handle) where
   found-fine : (p : ℕ) (h : List ℕ) (v : X) (w : W) (chunk : List ℕ) (k n : ℕ) (good : Bool) → length h ≤ mostHeld → L v w
-      → Sized mostHeld (h ++ chunk) k n → FineTurn (heldOn front handle (Found k n good) p h w chunk)
+      → Sized mostHeld (h ++ chunk) k n → FineTurn mostHeld L (heldOn front handle (Found k n good) p h w chunk)
   unfolding heldOn
   found-fine p h v w chunk k n good few lw s =
       let j : ℕ = k + n - length h in
@@ -55,32 +60,28 @@ module _ {front : List ℕ → Verdict} {mostHeld : ℕ} (C : Cutting front most
       }
 
   starved-fine : (p : ℕ) (h : List ℕ) (v : X) (w : W) (chunk : List ℕ) (k : ℕ) → L v w → length (drop k (h ++ chunk)) ≤ mostHeld
-      → FineTurn (heldOn front handle (Starved k) p h w chunk)
+      → FineTurn mostHeld L (heldOn front handle (Starved k) p h w chunk)
   unfolding heldOn
   starved-fine p h v w chunk k lw few = record { number = refl; few = few; values = v; stored = lw }
 
-  call-fine : (p : ℕ) (h : List ℕ) (v : X) (w : W) (i : Input) → length h ≤ mostHeld → L v w → FineTurn (heldCall front handle p h w i)
+  pub call-fine : (p : ℕ) (h : List ℕ) (v : X) (w : W) (i : Input) → length h ≤ mostHeld → L v w → FineTurn mostHeld L (heldCall front handle p h w i)
   unfolding heldCall
   call-fine p h v w i few lw = go (soughtBy front i h) refl
     where
-      go : (q : Sought) → soughtBy front i h ≡ q → FineTurn (heldOn front handle q p h w (chunkOf i))
+      go : (q : Sought) → soughtBy front i h ≡ q → FineTurn mostHeld L (heldOn front handle q p h w (chunkOf i))
       go (Found k n good) e = found-fine p h v w (chunkOf i) k n good few lw (call-sized C h i k n good e)
       go (Starved k) e = starved-fine p h v w (chunkOf i) k lw (call-starved C h i k few e .few)
 
-  port-few : (p : ℕ) (s : State (List ℕ) W) → Fine s → length (portOf p s) ≤ mostHeld
+  port-few : (p : ℕ) (s : State (List ℕ) W) → Fine mostHeld L s → length (portOf p s) ≤ mostHeld
   port-few zero s r = r .few0
   port-few (suc p) s r = r .few1
 
-  settled-fine : (p : ℕ) (s : State (List ℕ) W) (t : Turn (List ℕ) W) → Fine s → FineTurn t → Fine (settled p s t)
+  settled-fine : (p : ℕ) (s : State (List ℕ) W) (t : Turn (List ℕ) W) → Fine mostHeld L s → FineTurn mostHeld L t → Fine mostHeld L (settled p s t)
   settled-fine zero s t r h = record { few0 = h .few; few1 = r .few1; values = h .values; stored = h .stored }
   settled-fine (suc p) s t r h = record { few0 = r .few0; few1 = h .few; values = h .values; stored = h .stored }
 
   -- Its five tests come out so.
-  record FineStep (t : Step (State (List ℕ) W)) : Type 0 where
-    number : runNumber (t .answer .number) ≡ true
-    state : Fine (t .state)
-
-  step-fine : (room : ℕ) (s : State (List ℕ) W) (c : Call) → Fine s → FineStep (heldStep front handle mostHeld room tests s c)
+  step-fine : (room : ℕ) (s : State (List ℕ) W) (c : Call) → Fine mostHeld L s → FineStep mostHeld L (heldStep front handle mostHeld room tests s c)
   unfolding heldStep
   step-fine room s c r =
       let fit : ltb mostHeld (length (s .port0)) || ltb mostHeld (length (s .port1)) || tests (s .values) .unusable ≡ false =
@@ -97,31 +98,34 @@ module _ {front : List ℕ → Verdict} {mostHeld : ℕ} (C : Cutting front most
       y : Turn (List ℕ) W
       y = heldCall front handle p (portOf p s) (s .values) (c .input)
 
-      go : (a b : Bool) → FineStep (refuse a 16 s (refuse b 18 s (accept p s y)))
+      go : (a b : Bool) → FineStep mostHeld L (refuse a 16 s (refuse b 18 s (accept p s y)))
       go true b = record { number = refl; state = r }
       go false true = record { number = refl; state = r }
       go false false =
-          let h : FineTurn y = call-fine p (portOf p s) (r .values) (s .values) (c .input) (port-few p s r) (r .stored) in
+          let h : FineTurn mostHeld L y = call-fine p (portOf p s) (r .values) (s .values) (c .input) (port-few p s r) (r .stored) in
           record { number = h .number; state = settled-fine p s y r h }
 
-  module _ (room : ℕ) (restarted : State (List ℕ) W → State (List ℕ) W) (again : (s : State (List ℕ) W) → Fine s → Fine (restarted s)) where
-    history-fine : (s : State (List ℕ) W) (acts : List (Act Call)) → Fine s
-        → Sound mostHeld L (historyFrom (heldStep front handle mostHeld room tests) restarted s acts)
+module _ (front : List ℕ → Verdict) (mostHeld room : ℕ) {Profile X W : Type 0} (L : X → W → Type 0)
+    (reckoned : Profile → ℕ → X → Message → Outcome X) (tests : W → Tests) (handle : Profile → ℕ → W → Message → Outcome W)
+    (startX : X → X) (startW : W → W) where
+  module _ (C : Cutting front mostHeld) (H : HandlesIn front mostHeld room L reckoned tests handle startX startW) where
+    history-fine : (restarted : State (List ℕ) W → State (List ℕ) W) → ((s : State (List ℕ) W) → Fine mostHeld L s → Fine mostHeld L (restarted s))
+        → (profile : Profile) (s : State (List ℕ) W) (acts : List (Act Profile Call)) → Fine mostHeld L s
+        → Sound mostHeld L (historyFrom (λ p. heldStep front (handle p) mostHeld room tests) restarted profile s acts)
     unfolding historyFrom
-    history-fine s [] r = record { numbers = refl; few = λ p. port-few p s r; values = r .values; stored = r .stored }
-    history-fine s (restart ∷ acts) r = history-fine (restarted s) acts (again s r)
-    history-fine s (call c ∷ acts) r =
-        let one : FineStep (heldStep front handle mostHeld room tests s c) = step-fine room s c r in
-        let rest = history-fine (heldStep front handle mostHeld room tests s c .state) acts (one .state) in
+    history-fine restarted again profile s [] r =
+        record { numbers = refl; few = λ p. port-few C (H profile) p s r; values = r .values; stored = r .stored }
+    history-fine restarted again profile s (restart next ∷ acts) r = history-fine restarted again next (restarted s) acts (again s r)
+    history-fine restarted again profile s (call c ∷ acts) r =
+        let one : FineStep mostHeld L (heldStep front (handle profile) mostHeld room tests s c) = step-fine C (H profile) room s c r in
+        let rest = history-fine restarted again profile (heldStep front (handle profile) mostHeld room tests s c .state) acts (one .state) in
         record { numbers = cc (one .number, rest .numbers); few = rest .few; values = rest .values; stored = rest .stored }
 
-module _ (front : List ℕ → Verdict) (mostHeld room : ℕ) {X W : Type 0} (L : X → W → Type 0)
-    (reckoned : ℕ → X → Message → Outcome X) (tests : W → Tests) (handle : ℕ → W → Message → Outcome W) where
-  pub restarts-stay-sound : (startX : X → X) (startW : W → W) → RestartsStaySound front mostHeld room L reckoned tests handle startX startW
+  pub restarts-stay-sound : RestartsStaySound front mostHeld room L reckoned tests handle startX startW
   unfolding heldHistory
-  restarts-stay-sound startX startW C H again v w acts lw =
-      history-fine C H room (λ s. startedOn [] startW (s .values)) (λ s r. started (r .values) (s .values) (r .stored)) (startedOn [] startW w) acts
+  restarts-stay-sound C H again profile v w acts lw =
+      history-fine C H (λ s. startedOn [] startW (s .values)) (λ s r. started (r .values) (s .values) (r .stored)) profile (startedOn [] startW w) acts
       (started v w lw)
     where
-      started : (v : X) (w : W) → L v w → Fine C H (startedOn [] startW w)
+      started : (v : X) (w : W) → L v w → Fine mostHeld L (startedOn [] startW w)
       started v w r = record { few0 = omega arith; few1 = omega arith; values = startX v; stored = again v w r }

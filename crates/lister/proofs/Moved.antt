@@ -13,6 +13,8 @@ use Rattle.history.specs.Calls.{fed}
 use Rattle.message.specs.Front.{front}
 use Rattle.message.proofs.Framed.{cutting-harmless}
 use Rattle.command.specs.declared.settings.Settings.{Settings}
+use Rattle.command.specs.Rights.{guardedRights}
+use Rattle.board.specs.Profile.{Profile}
 use Rattle.board.specs.declared.feeding.Stepped.{Stepped}
 use Rattle.board.specs.Feed.{leftOf, stepOn, stepBy}
 use Rattle.board.specs.Place.{Stepping, inPlace, placeNumber, placeOn, placeBy, placeOf}
@@ -41,25 +43,25 @@ module _ (bytes : List ℕ) (old : ℕ) (w : Settings) (chunk room page : List �
       let d = length-drop (resume k n good) (held ++ take (k + n - length held) chunk) in
       record { inside = omega (arith, s .inside); fewer = λ _. omega (arith, s .inside, held-few) }
 
-  step-moves : (s : Sought) → seek front (held ++ chunk) ≡ s → Fine (inPlace (stepOn 0 s held w chunk room page) .step)
+  step-moves : (s : Sought) → seek front (held ++ chunk) ≡ s → Fine (inPlace (stepOn guardedRights s held w chunk room page) .step)
   step-moves (Found k n good) e = found-moves k n good e
   step-moves (Starved k) e = record { inside = omega arith; fewer = λ z. let w : ⊥ = omega arith in absurd w }
 
-  place-moves : (m : ℕ) → Fine (placeOn m 0 bytes old w (fed chunk) room page .step)
+  place-moves : (m : ℕ) → Fine (placeOn m guardedRights bytes old w (fed chunk) room page .step)
   unfolding stepBy
   place-moves zero = step-moves (seek front (held ++ chunk)) refl
   place-moves (suc m) = record { inside = omega arith; fewer = λ z. let w : ⊥ = omega arith in absurd w }
 
-  feed-moves : Fine (placeOf 0 bytes old 0 w chunk room page .step)
+  feed-moves : (profile : Profile) → Fine (placeOf 0 bytes old 0 w profile chunk room page .step)
   unfolding placeBy
-  feed-moves = place-moves (placeNumber 0 bytes old 0 w room page)
+  feed-moves profile = place-moves (placeNumber 0 bytes old 0 w room page)
 
-pub fed-moves : (bytes : List ℕ) (old : ℕ) (w : Settings) (chunk room page bytesAfter roomAfter pageAfter : List ℕ) (s : Stepped)
-    → record { step = s; bytes = bytesAfter; room = roomAfter; page = pageAfter } ≡ placeOf 0 bytes old 0 w chunk room page
+pub fed-moves : (bytes : List ℕ) (old : ℕ) (w : Settings) (profile : Profile) (chunk room page bytesAfter roomAfter pageAfter : List ℕ) (s : Stepped)
+    → record { step = s; bytes = bytesAfter; room = roomAfter; page = pageAfter } ≡ placeOf 0 bytes old 0 w profile chunk room page
     → Moves old chunk (s .number) (s .taken) (s .held)
-fed-moves bytes old w chunk room page bytesAfter roomAfter pageAfter s e =
-    let g : s ≡ placeOf 0 bytes old 0 w chunk room page .step = ap (λ (x : Stepping). x .step) e in
-    rw g (feed-moves bytes old w chunk room page)
+fed-moves bytes old w profile chunk room page bytesAfter roomAfter pageAfter s e =
+    let g : s ≡ placeOf 0 bytes old 0 w profile chunk room page .step = ap (λ (x : Stepping). x .step) e in
+    rw g (feed-moves bytes old w chunk room page profile)
 
 -- In a piece of which `at` bytes are taken.
 module _ (piece : List ℕ) (at held number taken after : ℕ) (h : at ≤ length piece)

@@ -2,7 +2,7 @@
 use Prim.Native.Nat.{ℕ, zero, suc, _+_, _≤_}
 use native.Mathlib.Omega.{arith}
 use mathlib.Core.Path.{_≡_, refl}
-use mathlib.Core.Bool.{Bool, or-true}
+use mathlib.Core.Bool.{or-true}
 use mathlib.Core.List.{List, [], _∷_, _++_}
 use lib.Dec.{ltb}
 use lib.ListN.{length}
@@ -11,6 +11,7 @@ use Rattle.page.specs.declared.setting.Setting.{Setting}
 use Rattle.page.specs.declared.setting.Stored.{Stored}
 use Rattle.page.specs.declared.setting.Setting.the-variants.{Baud, Accelerometer, Gyroscope}
 use Rattle.listing.specs.Rows.{rowSize}
+use Rattle.command.specs.declared.rights.Rights.{Rights}
 use Rattle.command.specs.declared.settings.Settings.{Settings}
 use Rattle.command.specs.declared.command.Command.{Command}
 use Rattle.command.specs.declared.command.Subject.{Subject}
@@ -18,7 +19,7 @@ use Rattle.command.specs.declared.command.Subject.the-variants.{Ping, Setting a
 use Rattle.command.specs.Command.{valueFor, subjectOf}
 use Rattle.command.specs.Errors.{fieldError}
 use Rattle.command.specs.Effects.{workingValue, valueField, functionEffect, fieldEffect, effectOn, effectOf}
-use Rattle.command.specs.Outcome.{Access, State, replyRow, needsNumber, fieldOutcome, fieldsOutcome}
+use Rattle.command.specs.Outcome.{Access, State, replyRow, denialOf, fieldOutcome, fieldsOutcome}
 use Rattle.lister.specs.Rows.{AnotherRow, RowFound, RowsFound}
 
 -- Nothing, or one field that is no row.
@@ -45,9 +46,9 @@ report-field Ping loaded w c = tt
 report-field (About s) loaded w c = report-function (c .function) loaded w s (valueFor s c)
 report-field Unknown loaded w c = tt
 
-report-effect : (needs : Bool) (loaded : Setting → Stored) (w : Settings) (c : Command) → Report (effectOf needs loaded w c .report)
+report-effect : (denial : ℕ) (loaded : Setting → Stored) (w : Settings) (c : Command) → Report (effectOf denial loaded w c .report)
 unfolding effectOf
-report-effect needs loaded w c = go (fieldError needs loaded c)
+report-effect denial loaded w c = go (fieldError denial loaded c)
   where
     go : (n : ℕ) → Report (effectOn n (fieldEffect (subjectOf (c .kind) (c .code)) loaded w c) w .report)
     go zero = report-field (subjectOf (c .kind) (c .code)) loaded w c
@@ -62,20 +63,20 @@ row-size echo error (b ∷ n ∷ bs) rest r a =
     let l : 6 ≤ length (replyRow echo error (b ∷ n ∷ bs) ++ rest) = omega arith in
     rw (le-ltb (length (replyRow echo error (b ∷ n ∷ bs) ++ rest)) 6 l, ne-eqb b 0x80 (r .0), r .1) (omega arith)
 
-module _ (P : Type 0) (access : Access P) (guarded : Bool) where
-  first : (x : State P) (c : Command) (rest : List ℕ) → AnotherRow rest → RowFound access guarded x c rest
+module _ (P : Type 0) (access : Access P) (rights : Rights) where
+  first : (x : State P) (c : Command) (rest : List ℕ) → AnotherRow rest → RowFound access rights x c rest
   unfolding fieldOutcome effectOf
   first x c rest a =
-      let needs : Bool = needsNumber access guarded (x .page) in
-      let report : List ℕ = effectOf needs (access .loaded (x .page)) (x .settings) c .report in
-      let s : 4 + length report ≡ length (replyRow (c .code) (fieldError needs (access .loaded (x .page)) c) report) = omega arith in
+      let denial : ℕ = denialOf access rights (x .page) in
+      let report : List ℕ = effectOf denial (access .loaded (x .page)) (x .settings) c .report in
+      let s : 4 + length report ≡ length (replyRow (c .code) (fieldError denial (access .loaded (x .page)) c) report) = omega arith in
       record {
-        size = rw s at (row-size (c .code) (fieldError needs (access .loaded (x .page)) c) report rest (report-effect needs (access .loaded (x .page)) (x .settings) c) a);
+        size = rw s at (row-size (c .code) (fieldError denial (access .loaded (x .page)) c) report rest (report-effect denial (access .loaded (x .page)) (x .settings) c) a);
         echo = refl;
         error = refl;
       }
 
-  next : (x : State P) (cs : List Command) → AnotherRow (fieldsOutcome access guarded x cs .rows)
+  next : (x : State P) (cs : List Command) → AnotherRow (fieldsOutcome access rights x cs .rows)
   unfolding fieldsOutcome fieldOutcome
   next x [] = tt
   next x (c ∷ cs) = refl

@@ -3,6 +3,7 @@ ghost use Rattle.lister.specs.Moves.{Moves};
 use crate::output::gather_rows;
 use crate::output::kind_of;
 use crate::output::payload_of;
+use board::Board;
 use board::Port;
 use command::Settings;
 use std::num::wrapping_add_u64;
@@ -25,7 +26,7 @@ pub struct Progress {
 
 impl Progress {
     pub(crate) fn start(page: &[u8], used: usize) -> Self {
-        let started = board::start(page);
+        let started = board::start(Board::FULL, page);
         let settings = started.board.settings;
         Progress {
             held: 0,
@@ -49,7 +50,17 @@ impl Progress {
     ) -> Self
         ensures { λ r. ⌜ Moves (self .held) (now (chunk .entry)) (r .number) (r .last) (r .held) ⌝ }
     {
-        let fed = board::feed_in_place(0, bytes, self.held, 0, self.settings, chunk, reply, page);
+        let fed = board::feed_in_place(
+            0,
+            bytes,
+            self.held,
+            0,
+            self.settings,
+            Board::FULL,
+            chunk,
+            reply,
+            page,
+        );
         let settings = fed.settings;
         Progress {
             held: fed.held,

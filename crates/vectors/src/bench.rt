@@ -41,7 +41,7 @@ impl Bench {
 
     pub(crate) fn blank() -> Self {
         let bytes = [0xFFu8; 80];
-        let started = board::start(text::prefix(&bytes, 64));
+        let started = board::start(Board::FULL, text::prefix(&bytes, 64));
         let board = started.board;
         Bench::on(board, bytes, 64)
     }
@@ -55,10 +55,12 @@ impl Bench {
         let board = self.board;
         let first = board.first;
         let second = board.second;
+        let readonly = board.readonly;
         self.with_board(Board {
             first,
             second,
             settings,
+            readonly,
         })
     }
 
@@ -68,17 +70,20 @@ impl Bench {
         let settings = board.settings;
         let first = board.first;
         let second = board.second;
+        let readonly = board.readonly;
         if number == 0 {
             return self.with_board(Board {
                 first: port,
                 second,
                 settings,
+                readonly,
             });
         }
         self.with_board(Board {
             first,
             second: port,
             settings,
+            readonly,
         })
     }
 
@@ -148,6 +153,7 @@ impl Bench {
     ) -> Stepped {
         let board = self.board;
         let w = board.settings;
+        let readonly = board.readonly;
         let one = board.first;
         let two = board.second;
         let first = one.held;
@@ -157,9 +163,20 @@ impl Bench {
         let replies = &mut room[0..r];
         let saved = &mut page[0..p];
         if quiet && chunk.len() == 0 {
-            return board::silence_in_place(port, bytes, first, second, w, replies, saved);
+            return board::silence_in_place(port, bytes, first, second, w, readonly, replies, saved);
         }
-        board::call_in_place(port, bytes, first, second, w, quiet, chunk, replies, saved)
+        board::call_in_place(
+            port,
+            bytes,
+            first,
+            second,
+            w,
+            readonly,
+            quiet,
+            chunk,
+            replies,
+            saved,
+        )
     }
 
     // Feeds a message to a port as if it held nothing. Both ports stay as they are: only the settings and the page go on.
@@ -179,9 +196,10 @@ impl Bench {
         FeedStep { fed, bench }
     }
 
-    // A new board on the page as it stands.
+    // A new board on the page as it stands, in the profile of this one.
     pub(crate) fn started(self) -> Started {
-        board::start(text::prefix(&self.bytes, self.length))
+        let board = self.board;
+        board::start(board.readonly, text::prefix(&self.bytes, self.length))
     }
 
     pub(crate) fn same_page(self, other: Bench) -> bool {
@@ -193,8 +211,11 @@ impl Bench {
         if self.same_page(before) {
             return out;
         }
-        out.text(b", page ")
-            .bytes(text::prefix(&self.bytes, self.length))
+        self.say_whole_page(out.text(b", page "))
+    }
+
+    pub(crate) fn say_whole_page(self, out: Output) -> Output {
+        out.bytes(text::prefix(&self.bytes, self.length))
     }
 }
 
@@ -219,6 +240,7 @@ fn call_parts(
 
 // A start in place on the first `n` bytes of one array and the first `m` of another.
 pub(crate) fn start_parts(
+    readonly: bool,
     first: &mut [u8],
     n: usize,
     second: &mut [u8],
@@ -227,7 +249,7 @@ pub(crate) fn start_parts(
 ) -> StartedInPlace {
     let a = within(n, first.len());
     let b = within(m, second.len());
-    board::start_in_place(&mut first[0..a], &mut second[0..b], page)
+    board::start_in_place(readonly, &mut first[0..a], &mut second[0..b], page)
 }
 
 // The smaller of the two.

@@ -1,4 +1,5 @@
-// The verbs on a board that is started, or fed one message at a time, and nothing else: board, restart, arrays, handle, second, room.
+// The verbs on a board that is started, or fed one message at a time, and nothing else: board, readonly, restart, arrays,
+// lend, lent, handle, second, room.
 use crate::bench;
 use crate::bench::Bench;
 use crate::bench::Told;
@@ -8,14 +9,20 @@ use crate::pages;
 use crate::text;
 use crate::text::MOST;
 use crate::text::Number;
+use board::Board;
 use board::Fed;
 use board::Port;
 use board::Started;
+use board::StartedInPlace;
+use command::Settings;
 
 // A verb that is not here is for the next module.
 pub(crate) fn outcome(verb: &[u8], args: &[u8], bench: Bench, out: Output) -> Told {
     if text::same(verb, b"board") {
-        return start(args, bench, out);
+        return start(Board::FULL, args, bench, out);
+    }
+    if text::same(verb, b"readonly") {
+        return start(Board::READONLY, args, bench, out);
     }
     if text::same(verb, b"restart") {
         return restart(bench, out);
@@ -23,7 +30,16 @@ pub(crate) fn outcome(verb: &[u8], args: &[u8], bench: Bench, out: Output) -> To
     if text::same(verb, b"arrays") {
         return Told {
             bench,
-            out: start_arrays(args, out),
+            out: start_arrays(args, bench, out),
+        };
+    }
+    if text::same(verb, b"lend") {
+        return lend(args, bench, out);
+    }
+    if text::same(verb, b"lent") {
+        return Told {
+            bench,
+            out: bench.say_whole_page(out),
         };
     }
     if text::same(verb, b"handle") {
@@ -38,12 +54,12 @@ pub(crate) fn outcome(verb: &[u8], args: &[u8], bench: Bench, out: Output) -> To
     feeds::outcome(verb, args, bench, out)
 }
 
-fn start(args: &[u8], bench: Bench, out: Output) -> Told {
+fn start(readonly: bool, args: &[u8], bench: Bench, out: Output) -> Told {
     let mut bytes = [0u8; 80];
     let Number::Value(n) = pages::read_page(args, &mut bytes) else {
         return bench::bad_line(bench, out);
     };
-    let started = board::start(text::prefix(&bytes, n));
+    let started = board::start(readonly, text::prefix(&bytes, n));
     let board = started.board;
     Told {
         bench: Bench::on(board, bytes, n),
@@ -54,8 +70,17 @@ fn start(args: &[u8], bench: Bench, out: Output) -> Told {
 fn say_started(started: Started, out: Output) -> Output {
     let board = started.board;
     let settings = board.settings;
-    let told = out.decimal(started.number as u64).text(b", ");
-    bench::say_settings(settings, told)
+    say_start(started.number, settings, board.readonly, out)
+}
+
+// The full profile is not said.
+fn say_start(number: u8, settings: Settings, readonly: bool, out: Output) -> Output {
+    let told = out.decimal(number as u64).text(b", ");
+    let set = bench::say_settings(settings, told);
+    if readonly {
+        return set.text(b", read-only");
+    }
+    set
 }
 
 fn restart(bench: Bench, out: Output) -> Told {
@@ -67,8 +92,22 @@ fn restart(bench: Bench, out: Output) -> Told {
     }
 }
 
-// A start in place on two arrays of EE: the number, the settings, and both arrays afterwards.
-fn start_arrays(args: &[u8], out: Output) -> Output {
+// Another page under the same board.
+fn lend(args: &[u8], bench: Bench, out: Output) -> Told {
+    let mut bytes = [0u8; 80];
+    let Number::Value(n) = pages::read_page(args, &mut bytes) else {
+        return bench::bad_line(bench, out);
+    };
+    let board = bench.board;
+    let told = out.decimal(n as u64).text(b" bytes");
+    Told {
+        bench: Bench::on(board, bytes, n),
+        out: told,
+    }
+}
+
+// A start in place on two arrays of EE, in the profile of the board: the number, the settings, and both arrays afterwards.
+fn start_arrays(args: &[u8], bench: Bench, out: Output) -> Output {
     let rest = text::other_words(args);
     let Number::Value(n) = text::read_decimal(text::first_word(args)) else {
         return out.bad_line();
@@ -88,13 +127,29 @@ fn start_arrays(args: &[u8], out: Output) -> Output {
     }
     let mut first = [0xEEu8; MOST];
     let mut second = [0xEEu8; MOST];
-    let started = bench::start_parts(&mut first, n, &mut second, m, text::prefix(&page, p));
-    let told = out.decimal(started.number as u64).text(b", ");
-    bench::say_settings(started.settings, told)
+    let board = bench.board;
+    let started = bench::start_parts(
+        board.readonly,
+        &mut first,
+        n,
+        &mut second,
+        m,
+        text::prefix(&page, p),
+    );
+    say_arrays(
+        started,
+        text::prefix(&first, n),
+        text::prefix(&second, m),
+        out,
+    )
+}
+
+fn say_arrays(started: StartedInPlace, first: &[u8], second: &[u8], out: Output) -> Output {
+    say_start(started.number, started.settings, started.readonly, out)
         .text(b", ports ")
-        .bytes(text::prefix(&first, n))
+        .bytes(first)
         .byte(b' ')
-        .bytes(text::prefix(&second, m))
+        .bytes(second)
 }
 
 fn handle(port: u8, args: &[u8], bench: Bench, out: Output) -> Told {

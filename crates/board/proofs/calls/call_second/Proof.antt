@@ -1,5 +1,6 @@
 -- `board::calls::call_second` meets its contract.
 use Rattle.board.proofs.Places.{fed-second}
+use Rattle.board.specs.Profile.{rightsOf}
 use Rattle.board.specs.Port.{heldBytes}
 use Rattle.board.specs.Feed.{stepAt}
 use borrow.Author.Needs.{needs}
@@ -19,8 +20,8 @@ returns : tie.Need-returns
 returns c =
     let s = c .before .before .before .before .before .before .before .before .before .before .before .before .before .before .before .before .args in
     let t = c .before .before .before .before .before .before .before .before .step-port in
-    fed-second (s .t2) (stepAt (s .port) (s .quiet) (heldBytes (s .t2 .second)) (s .t2 .settings) (s .chunk .now) (s .room .now) (s .page .now))
-    (t .result) (t .last .1 .0) (t .last .1 .1 .1 .1 .1 .1 .0) (t .last .1 .1 .1 .1 .1 .1 .1 .0) (search (t, needs))
+    fed-second (s .t2) (stepAt (rightsOf (s .t2 .readonly) (s .port)) (s .quiet) (heldBytes (s .t2 .second)) (s .t2 .settings) (s .chunk .now) (s .room .now) (s .page .now))
+    (t .result) (t .last .1 .1 .0) (t .last .1 .1 .1 .1 .1 .1 .1 .0) (t .last .1 .1 .1 .1 .1 .1 .1 .1 .0) (search (t, needs))
 
 pub call-second-spec : {M : Type 1} → statement M
 call-second-spec = tie.close (tie.spec step-port-requires same-length same-length-2 returns)

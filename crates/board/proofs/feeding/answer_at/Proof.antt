@@ -13,6 +13,9 @@ sub-from c = search needs
 excess-requires-2 : tie.Need-excess-requires-2
 excess-requires-2 c κs = search needs
 
+rights-of-requires : tie.Need-rights-of-requires
+rights-of-requires c κs = search needs
+
 sub-answer-over : tie.Need-sub-answer-over
 sub-answer-over c = search needs
 
@@ -50,6 +53,7 @@ answer-at-spec =
     excess-requires
     sub-from
     excess-requires-2
+    rights-of-requires
     sub-answer-over
     part-answer-over-start
     part-answer-over-end

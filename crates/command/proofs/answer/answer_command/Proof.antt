@@ -22,11 +22,14 @@ same-length c = search needs
 returns : tie.Need-returns
 returns c = search (placed-row, command-refused, needs)
 
+denial-behind-requires : tie.Need-denial-behind-requires
+denial-behind-requires c κs = search needs
+
 answer-fields-requires : tie.Need-answer-fields-requires
 answer-fields-requires c κs =
-    let a = c .before .before .before .before .before .before .before .before .args in
-    let pre = c .before .before .before .before .before .before .before .before .pre in
-    let t = fields-there (now (a .held)) (now (a .chunk)) (a .from) (a .to) (a .kind) (pre .0) (pre .2) _ (c .before .before .before .command-error .ensures) (c .before .before .if1 .left) in
+    let a = c .before .before .before .before .before .before .before .before .before .before .args in
+    let pre = c .before .before .before .before .before .before .before .before .before .before .pre in
+    let t = fields-there (now (a .held)) (now (a .chunk)) (a .from) (a .to) (a .kind) (pre .0) (pre .2) _ (c .before .before .before .before .before .command-error .ensures) (c .before .before .before .before .if1 .left) in
     (pre .0, pre .1, t .0, t .1, omega arith)
 
 same-length-2 : tie.Need-same-length-2
@@ -47,6 +50,7 @@ answer-command-spec =
     put-row-requires
     same-length
     returns
+    denial-behind-requires
     answer-fields-requires
     same-length-2
     same-length-3

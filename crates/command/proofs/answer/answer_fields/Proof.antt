@@ -16,13 +16,13 @@ use Rattle.command.proofs.answer.answer_fields.Statement.{statement}
 use Rattle.command.proofs.answer.answer_fields.Tie as tie
 
 abbrev Inv-loop : tie.InvT-loop
-Inv-loop guarded held chunk kind from to room₀ page₀ at₀ p₀ room page at p =
+Inv-loop denial held chunk kind from to room₀ page₀ at₀ p₀ room page at p =
     (length room ≡ length room₀) × (length page ≡ length page₀)
-    × Turn (held ++ chunk) guarded kind to (placedFields guarded kind (fieldsIn (fieldsOf (drop from (take to (held ++ chunk))))) (record { done = p₀; room = room₀; page = page₀ })) at
+    × Turn (held ++ chunk) denial kind to (placedFields denial kind (fieldsIn (fieldsOf (drop from (take to (held ++ chunk))))) (record { done = p₀; room = room₀; page = page₀ })) at
     (record { done = p; room = room; page = page })
 
 abbrev μ-loop : tie.MeasureT-loop
-μ-loop guarded held chunk kind from to room₀ page₀ at₀ p₀ room page at p = to - at
+μ-loop denial held chunk kind from to room₀ page₀ at₀ p₀ room page at p = to - at
 
 loop-holds : tie.Need-loop-holds Inv-loop μ-loop
 loop-holds c =
@@ -31,7 +31,7 @@ loop-holds c =
     let fits : a .to ≤ length row = omega (arith, length-append (now (a .held)) (now (a .chunk))) in
     let q : Placed = record { done = a .start; room = now (a .room); page = now (a .page) } in
     let pre = c .before .before .before .before .pre in
-    (refl, refl, turn-start row (a .guarded) (a .kind) (a .to) (a .from) q (pre .0) fits (pre .4) (pre .3))
+    (refl, refl, turn-start row (a .denial) (a .kind) (a .to) (a .from) q (pre .0) fits (pre .4) (pre .3))
 
 command-at-requires : tie.Need-command-at-requires Inv-loop μ-loop
 command-at-requires c κs = search needs
@@ -42,7 +42,7 @@ answer-field-requires c κs =
     let row = now (a .held) ++ now (a .chunk) in
     let fits : a .to ≤ length row = omega (arith, length-append (now (a .held)) (now (a .chunk))) in
     let l = c .before .before .before .before .loop in
-    turn-space row (a .guarded) (a .kind) (a .to) fits (l .at) (c .before .before .before .loop-test .taken) _ _ (l .inv .2)
+    turn-space row (a .denial) (a .kind) (a .to) fits (l .at) (c .before .before .before .loop-test .taken) _ _ (l .inv .2)
 
 count-of-requires : tie.Need-count-of-requires Inv-loop μ-loop
 count-of-requires c κs = search needs
@@ -65,7 +65,7 @@ loop-again c =
     let l = c .before .before .before .before .before .before .before .before .before .before .loop in
     let r = c .before .before .before .before .before .before .before .before .command-at .ensures in
     let x : c .count-of .result ≡ getD row (l .at + 1) 0 = c .count-of .ensures .0 ∙ ap (λ (k : Command). k .size) r in
-    (omega arith, omega arith, rw x (turn-next row (a .guarded) (a .kind) (a .to) fits (l .at) (c .before .before .before .before .before .before .before .before .before .loop-test .taken) _ _ (l .inv .2) _ r _ (c .before .before .before .before .before .answer-field .ensures)))
+    (omega arith, omega arith, rw x (turn-next row (a .denial) (a .kind) (a .to) fits (l .at) (c .before .before .before .before .before .before .before .before .before .loop-test .taken) _ _ (l .inv .2) _ r _ (c .before .before .before .before .before .answer-field .ensures)))
 
 same-length : tie.Need-same-length Inv-loop μ-loop
 same-length c = c .before .loop .inv .0
@@ -79,7 +79,7 @@ returns c =
     let row = now (a .held) ++ now (a .chunk) in
     let fits : a .to ≤ length row = omega (arith, length-append (now (a .held)) (now (a .chunk))) in
     let l = c .before .loop in
-    turn-end row (a .guarded) (a .kind) (a .to) fits (l .at) _ _ (c .loop-test .left) (l .inv .2)
+    turn-end row (a .denial) (a .kind) (a .to) fits (l .at) _ _ (c .loop-test .left) (l .inv .2)
 
 pub answer-fields-spec : {M : Type 1} → statement M
 answer-fields-spec =

@@ -20,13 +20,10 @@ same-length c = search needs
 returns : tie.Need-returns
 returns c = search (placed-row, opened-refused, needs)
 
-is-guarded-requires : tie.Need-is-guarded-requires
-is-guarded-requires c κs = search needs
-
 answer-command-requires : tie.Need-answer-command-requires
 answer-command-requires c κs =
-    let pre = c .before .before .before .before .before .before .before .before .pre in
-    let f = pre .0 (c .before .before .before .if1 .left) in
+    let pre = c .before .before .before .before .before .before .before .pre in
+    let f = pre .0 (c .before .before .if1 .left) in
     (f .0, pre .1, f .1, omega arith)
 
 same-length-2 : tie.Need-same-length-2
@@ -37,8 +34,8 @@ same-length-3 c = search needs
 
 returns-2 : tie.Need-returns-2
 returns-2 c =
-    let a = c .before .before .before .before .before .before .before .before .before .before .before .before .before .args in
-    opened-command (a .start) (now (a .room)) (now (a .page)) (a .port) (a .o) (drop (a .o .from) (take (a .to) (now (a .held) ++ now (a .chunk)))) (c .before .before .before .before .before .before .before .before .if1 .left) _ (c .before .before .before .before .before .before .before .is-guarded .ensures) _ (c .before .before .before .before .answer-command .ensures)
+    let a = c .before .before .before .before .before .before .before .before .before .before .before .before .args in
+    opened-command (a .start) (now (a .room)) (now (a .page)) (a .rights) (a .o) (drop (a .o .from) (take (a .to) (now (a .held) ++ now (a .chunk)))) (c .before .before .before .before .before .before .before .if1 .left) _ (c .before .before .before .before .answer-command .ensures)
 
 pub answer-opened-spec : {M : Type 1} → statement M
 answer-opened-spec =
@@ -48,7 +45,6 @@ answer-opened-spec =
     put-row-requires
     same-length
     returns
-    is-guarded-requires
     answer-command-requires
     same-length-2
     same-length-3

@@ -25,14 +25,14 @@ answer-opened-requires : tie.Need-answer-opened-requires
 answer-opened-requires c κs =
     let a = c .before .before .before .before .before .before .before .before .before .before .before .before .before .args in
     let e = c .before .before .before .before .before .before .payload-end .ensures .0 in
-    (λ z. open-fits (now (a .held)) (now (a .chunk)) _ (a .good) _ (now (a .page)) (e .0) (e .2) _ (c .before .before .before .before .open-message .ensures) z, omega arith, omega arith)
+    (λ z. open-fits (now (a .held)) (now (a .chunk)) _ (a .rights) (a .good) _ (now (a .page)) (e .0) (e .2) _ (c .before .before .before .before .open-message .ensures) z, omega arith, omega arith)
 
 sealed-requires : tie.Need-sealed-requires
 sealed-requires c κs =
     let a = c .before .before .before .before .before .before .before .before .before .before .before .before .before .before .before .before .before .before .before .args in
     let kind = c .before .before .before .before .before .before .before .before .before .before .before .before .before .byte-over .ensures in
-    let o = opening-answered (now (a .held)) (now (a .chunk)) (c .before .before .before .before .before .before .before .before .before .before .before .before .payload-end .result) (a .port) (a .good) (c .before .before .before .before .before .before .before .before .before .before .before .before .before .byte-over .result) kind (c .before .before .before .before .before .before .before .before .before .before .before .before .payload-end .ensures .1) (a .w) (now (a .room)) (now (a .page)) (c .before .before .before .before .before .before .before .before .before .before .open-message .result) _ (c .before .before .before .before .before .before .before .before .before .before .open-message .ensures) in
-    answer-ready (a .port) (now (a .held) ++ now (a .chunk)) (a .good) (a .w) (now (a .room)) (now (a .page)) (c .before .before .before .before .before .before .before .before .before .before .before .before .before .before .if1 .left) _ kind _ _ _ (c .before .before .before .before .before .answer-opened .ensures ∙ o)
+    let o = opening-answered (now (a .held)) (now (a .chunk)) (c .before .before .before .before .before .before .before .before .before .before .before .before .payload-end .result) (a .rights) (a .good) (c .before .before .before .before .before .before .before .before .before .before .before .before .before .byte-over .result) kind (c .before .before .before .before .before .before .before .before .before .before .before .before .payload-end .ensures .1) (a .w) (now (a .room)) (now (a .page)) (c .before .before .before .before .before .before .before .before .before .before .open-message .result) _ (c .before .before .before .before .before .before .before .before .before .before .open-message .ensures) in
+    answer-ready (a .rights) (now (a .held) ++ now (a .chunk)) (a .good) (a .w) (now (a .room)) (now (a .page)) (c .before .before .before .before .before .before .before .before .before .before .before .before .before .before .if1 .left) _ kind _ _ _ (c .before .before .before .before .before .answer-opened .ensures ∙ o)
 
 same-length : tie.Need-same-length
 same-length c = search needs
@@ -44,9 +44,9 @@ returns-2 : tie.Need-returns-2
 returns-2 c =
     let a = c .before .before .before .before .before .before .before .before .before .before .before .before .before .before .before .before .before .before .before .before .before .before .args in
     let kind = c .before .before .before .before .before .before .before .before .before .before .before .before .before .before .before .before .byte-over .ensures in
-    let o = opening-answered (now (a .held)) (now (a .chunk)) (c .before .before .before .before .before .before .before .before .before .before .before .before .before .before .before .payload-end .result) (a .port) (a .good) (c .before .before .before .before .before .before .before .before .before .before .before .before .before .before .before .before .byte-over .result) kind (c .before .before .before .before .before .before .before .before .before .before .before .before .before .before .before .payload-end .ensures .1) (a .w) (now (a .room)) (now (a .page)) (c .before .before .before .before .before .before .before .before .before .before .before .before .before .open-message .result) _ (c .before .before .before .before .before .before .before .before .before .before .before .before .before .open-message .ensures) in
+    let o = opening-answered (now (a .held)) (now (a .chunk)) (c .before .before .before .before .before .before .before .before .before .before .before .before .before .before .before .payload-end .result) (a .rights) (a .good) (c .before .before .before .before .before .before .before .before .before .before .before .before .before .before .before .before .byte-over .result) kind (c .before .before .before .before .before .before .before .before .before .before .before .before .before .before .before .payload-end .ensures .1) (a .w) (now (a .room)) (now (a .page)) (c .before .before .before .before .before .before .before .before .before .before .before .before .before .open-message .result) _ (c .before .before .before .before .before .before .before .before .before .before .before .before .before .open-message .ensures) in
     let s = c .before .before .sealed .ensures in
-    answer-done (a .port) (now (a .held) ++ now (a .chunk)) (a .good) (a .w) (now (a .room)) (now (a .page)) (c .before .before .before .before .before .before .before .before .before .before .before .before .before .before .before .before .before .if1 .left) _ kind _ _ _ (c .before .before .before .before .before .before .before .before .answer-opened .ensures ∙ o) _ (s .0) _ (s .1)
+    answer-done (a .rights) (now (a .held) ++ now (a .chunk)) (a .good) (a .w) (now (a .room)) (now (a .page)) (c .before .before .before .before .before .before .before .before .before .before .before .before .before .before .before .before .before .if1 .left) _ kind _ _ _ (c .before .before .before .before .before .before .before .before .answer-opened .ensures ∙ o) _ (s .0) _ (s .1)
 
 pub answer-over-spec : {M : Type 1} → statement M
 answer-over-spec =

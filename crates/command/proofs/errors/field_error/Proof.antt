@@ -1,5 +1,5 @@
 -- `command::errors::field_error` meets its contract: each `return` is a test.
-use Rattle.command.proofs.Tests.{error-unknown, error-number, error-own}
+use Rattle.command.proofs.Tests.{error-unknown, error-denied, error-own}
 use borrow.Author.Needs.{needs}
 use Rattle.command.proofs.errors.field_error.Statement.{statement}
 use Rattle.command.proofs.errors.field_error.Tie as tie
@@ -13,11 +13,11 @@ is-unknown-requires c κs = search needs
 returns : tie.Need-returns
 returns c = search (error-unknown, needs)
 
-number-missing-requires : tie.Need-number-missing-requires
-number-missing-requires c κs = search needs
+is-denied-requires : tie.Need-is-denied-requires
+is-denied-requires c κs = search needs
 
 returns-2 : tie.Need-returns-2
-returns-2 c = search (error-number, needs)
+returns-2 c = search (error-denied, needs)
 
 own-error-requires : tie.Need-own-error-requires
 own-error-requires c κs = search needs
@@ -32,7 +32,7 @@ field-error-spec =
     subject-of-requires
     is-unknown-requires
     returns
-    number-missing-requires
+    is-denied-requires
     returns-2
     own-error-requires
     returns-3)

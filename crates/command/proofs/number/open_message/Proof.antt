@@ -36,7 +36,7 @@ returns-3 c = search (open-refused, needs)
 number-in-requires : tie.Need-number-in-requires
 number-in-requires c κs =
     let a = c .before .before .before .before .before .before .before .before .args in
-    let t = number-there (now (a .held)) (now (a .chunk)) (a .to) (numberOn (now (a .page))) _ (c .before .number-error .ensures) (c .if3 .left) (c .before .before .before .before .before .before .before .before .pre .1) in
+    let t = number-there (now (a .held)) (now (a .chunk)) (a .to) (a .rights) (numberOn (now (a .page))) _ (c .before .number-error .ensures) (c .if3 .left) (c .before .before .before .before .before .before .before .before .pre .1) in
     (omega arith, omega arith)
 
 put-last-number-requires : tie.Need-put-last-number-requires
@@ -52,8 +52,8 @@ returns-4 : tie.Need-returns-4
 returns-4 c =
     let a = c .before .before .before .before .before .before .before .before .before .before .before .before .before .before .args in
     let error = c .before .before .before .before .before .before .before .number-error .ensures in
-    let t = number-there (now (a .held)) (now (a .chunk)) (a .to) (numberOn (now (a .page))) _ error (c .before .before .before .before .before .before .if3 .left) (c .before .before .before .before .before .before .before .before .before .before .before .before .before .before .pre .1) in
-    open-spent (a .good) (a .kind) (drop 4 (take (a .to) (now (a .held) ++ now (a .chunk)))) (now (a .page)) (c .before .before .before .before .before .before .before .before .before .before .if1 .left) (c .before .before .before .before .before .before .before .before .before .if2 .left) _ error (c .before .before .before .before .before .before .if3 .left) _ (c .before .before .before .before .before .number-in .ensures) _ (c .before .before .before .put-last-number .ensures) _
+    let t = number-there (now (a .held)) (now (a .chunk)) (a .to) (a .rights) (numberOn (now (a .page))) _ error (c .before .before .before .before .before .before .if3 .left) (c .before .before .before .before .before .before .before .before .before .before .before .before .before .before .pre .1) in
+    open-spent (a .rights) (a .good) (a .kind) (drop 4 (take (a .to) (now (a .held) ++ now (a .chunk)))) (now (a .page)) (c .before .before .before .before .before .before .before .before .before .before .if1 .left) (c .before .before .before .before .before .before .before .before .before .if2 .left) _ error (c .before .before .before .before .before .before .if3 .left) _ (c .before .before .before .before .before .number-in .ensures) _ (c .before .before .before .put-last-number .ensures) _
     (inner-kind (now (a .held)) (now (a .chunk)) (a .to) _ (t .0) (c .byte-over .ensures))
 
 pub open-message-spec : {M : Type 1} → statement M
