@@ -33,6 +33,23 @@ enum {
     KETPHIROJ_DATA_SIZE = 34         /* a data message of an acceleration and a rate */
 };
 
+/*
+ * The profile that a board is started in, for an argument `readonly`; any value but 0 is true, and so read-only. A start is told it,
+ * the board keeps it, and no other call changes it. The page does not keep it: a board that starts anew, as after a power cut, is
+ * told it again.
+ * Full: either port may use every function (on port 0 with a number, once the page keeps one: see ketphiroj_feed_in_place).
+ * Read-only: port 1 may use Ping and function 2 only; port 0 is as in the full profile. Functions 1, 3, 4 and 5 on port 1 are answered with
+ * error 7, field by field: an unknown code is 3 before that, and what would be 4 or 6 of a field's own comes after it. A numbered
+ * command with right sums on port 1 gets one row with error 7, whatever stands in it, and its number is not spent.
+ * What is promised of a read-only board: whatever comes on port 1, in feeds and silences of any number, port 0 does not see it. Of
+ * each call of port 0 the answer, the reply, what port 0 then holds, the working settings and the page are the same as with anything
+ * else on port 1, or nothing. That is proved, of every list of calls, refused ones included.
+ * What is not: port 1 still learns the working settings, since function 2 reports them, and so what port 0 does to them; who reads
+ * there can pass that on. Nor is time covered: how long a call takes, and when port 0 is served while much comes on port 1, is the
+ * driver's affair.
+ */
+enum { KETPHIROJ_FULL = 0, KETPHIROJ_READONLY = 1 };
+
 /* The numbers that calls answer. Where more than one would fit, a call answers the first in its own list below. */
 enum {
     KETPHIROJ_DONE = 0,
@@ -74,6 +91,7 @@ typedef struct {
     ketphiroj_port first; /* port 0 */
     ketphiroj_port second; /* port 1 */
     ketphiroj_settings settings; /* the working values */
+    bool readonly; /* the profile that it was started in; the calls only read it */
 } ketphiroj_board;
 
 typedef struct {
@@ -82,22 +100,25 @@ typedef struct {
 } ketphiroj_started;
 
 /*
- * A board with two empty ports, on the settings that the page keeps, or on the factory's for those that it does not. A
- * gyroscope's range 6 or 7, which a page of an older board may keep, is not used: the board starts on the factory's, and the page
- * stays as it is. Numbers: 0; 19, 20: the board is then on the factory's settings.
+ * A board with two empty ports, in the profile KETPHIROJ_FULL or KETPHIROJ_READONLY, on the settings that the page keeps, or on the
+ * factory's for those that it does not. A gyroscope's range 6 or 7, which a page of an older board may keep, is not used: the board
+ * starts on the factory's, and the page stays as it is. Numbers: 0; 19, 20: the board is then on the factory's settings, in the
+ * profile asked for.
  */
-ketphiroj_started ketphiroj_start(const uint8_t *page, size_t page_length);
+ketphiroj_started ketphiroj_start(bool readonly, const uint8_t *page, size_t page_length);
 
-/* What a start in place answers. The board is the caller's: `settings` are to be put into it. */
+/* What a start in place answers. The board is the caller's: `settings` and `readonly` are to be put into it. */
 typedef struct {
     ketphiroj_settings settings; /* the working values now */
     uint8_t number;
+    bool readonly; /* the profile asked for, also where the start is refused */
 } ketphiroj_started_in_place;
 
 /*
  * Starts a board that the caller keeps, whatever stands in it, where ketphiroj_start answers a whole board and takes the stack for
  * it. `first` and `second` are the 260 bytes of ports 0 and 1, which are cleared. The caller sets both held counts to 0 and puts
- * the answer's settings into its board, as ketphiroj_start_board does: the board is then the one that ketphiroj_start answers.
+ * the answer's settings and profile into its board, as ketphiroj_start_board does: the board is then the one that ketphiroj_start
+ * answers.
  * The page is only read.
  * 0: the board starts on the settings that the page keeps, or on the factory's for those that it does not, and for a
  *    gyroscope's range 6 or 7.
@@ -105,7 +126,8 @@ typedef struct {
  * 19, 20: the page is refused. Both ports were cleared all the same, and the settings are the factory's.
  */
 ketphiroj_started_in_place ketphiroj_start_in_place(
-    uint8_t *first, size_t first_length, uint8_t *second, size_t second_length, const uint8_t *page, size_t page_length);
+    bool readonly, uint8_t *first, size_t first_length, uint8_t *second, size_t second_length, const uint8_t *page,
+    size_t page_length);
 
 /* What a feed or a silence answers. The board is the caller's: `held` and `settings` are to be put back into it. */
 typedef struct {
@@ -122,13 +144,13 @@ typedef struct {
  * then not looked at, and none of it is taken.
  */
 ketphiroj_stepped ketphiroj_call_in_place(
-    uint8_t port, uint8_t *bytes, size_t bytes_length, size_t first, size_t second, ketphiroj_settings settings, bool quiet,
-    const uint8_t *chunk, size_t chunk_length, uint8_t *room, size_t room_length, uint8_t *page, size_t page_length);
+    uint8_t port, uint8_t *bytes, size_t bytes_length, size_t first, size_t second, ketphiroj_settings settings, bool readonly,
+    bool quiet, const uint8_t *chunk, size_t chunk_length, uint8_t *room, size_t room_length, uint8_t *page, size_t page_length);
 
 /*
  * Feeds a chunk to port 0 or 1. `bytes` are the 260 bytes of the named port, which are written in place, `first` and `second`
- * the held counts of ports 0 and 1. The caller puts the answer's held count and settings back into its board, as
- * ketphiroj_feed_board does.
+ * the held counts of ports 0 and 1, `readonly` the profile that the board was started in. The caller puts the answer's held count and
+ * settings back into its board, as ketphiroj_feed_board does.
  * Bytes that open no message are skipped without a reply; so are stray A5 in front of a message, any number of them.
  * A command has 1 to 16 fields, which are handled in their order as separate commands would be; an error of one does not stop
  * those after it. Where the fields do not fill the payload exactly, or are more than 16, nothing is done, and the error is 4.
@@ -144,11 +166,12 @@ ketphiroj_stepped ketphiroj_call_in_place(
  *    settings are those given.
  *
  * Numbered commands. A message of type 0x7C is a command with a number in front: its payload is the number (4 bytes, big-endian),
- * the type 0x01 or 0x02, and the fields. Either port takes it. The number is fresh where it is larger than the one that the page
+ * the type 0x01 or 0x02, and the fields. Either port takes it, but not port 1 of a read-only board. The number is fresh where it is larger than the one that the page
  * keeps, or where the page keeps none. A fresh number is written to the page, then the command is handled; the number is spent
  * even where the command is answered with an error. One that is not fresh is answered with error 5, and nothing changes. Once the
  * page keeps a number, port 0 answers functions 1, 3, 4 and 5 without a number with error 5; Ping and function 2 go on, and port 1
- * takes all of them. After 4294967295 no number is fresh until the page is erased.
+ * takes all of them. After 4294967295 no number is fresh until the page is erased. Port 1 of a read-only board takes no numbered
+ * command at all: each with right sums is answered with error 7, fresh or not, and the number is not spent.
  * So no number is accepted twice over one page, however often a board is started on it. For this to hold over a power cut the
  * driver must, with feeds and with silences,
  *   - store the page where `saved`, and only then act on the answer: send the reply, and put the answered settings to use. A number
@@ -161,11 +184,12 @@ ketphiroj_stepped ketphiroj_call_in_place(
  *     the number is lost: a blank page in its place would let every number be accepted again, so that is for a person to decide.
  */
 static inline ketphiroj_stepped ketphiroj_feed_in_place(
-    uint8_t port, uint8_t *bytes, size_t bytes_length, size_t first, size_t second, ketphiroj_settings settings,
+    uint8_t port, uint8_t *bytes, size_t bytes_length, size_t first, size_t second, ketphiroj_settings settings, bool readonly,
     const uint8_t *chunk, size_t chunk_length, uint8_t *room, size_t room_length, uint8_t *page, size_t page_length)
 {
     return ketphiroj_call_in_place(
-        port, bytes, bytes_length, first, second, settings, false, chunk, chunk_length, room, room_length, page, page_length);
+        port, bytes, bytes_length, first, second, settings, readonly, false, chunk, chunk_length, room, room_length, page,
+        page_length);
 }
 
 /*
@@ -184,33 +208,34 @@ static inline ketphiroj_stepped ketphiroj_feed_in_place(
  * message may then begin before the silence and end after it. No number of a numbered command is accepted twice either way.
  */
 static inline ketphiroj_stepped ketphiroj_silence_in_place(
-    uint8_t port, uint8_t *bytes, size_t bytes_length, size_t first, size_t second, ketphiroj_settings settings, uint8_t *room,
-    size_t room_length, uint8_t *page, size_t page_length)
+    uint8_t port, uint8_t *bytes, size_t bytes_length, size_t first, size_t second, ketphiroj_settings settings, bool readonly,
+    uint8_t *room, size_t room_length, uint8_t *page, size_t page_length)
 {
     static const uint8_t no_chunk[1] = {0}; /* never NULL, not even with length 0 */
     return ketphiroj_call_in_place(
-        port, bytes, bytes_length, first, second, settings, true, no_chunk, 0, room, room_length, page, page_length);
+        port, bytes, bytes_length, first, second, settings, readonly, true, no_chunk, 0, room, room_length, page, page_length);
 }
 
 /*
- * Starts a board where it stands, whatever it holds: afterwards it is the one that ketphiroj_start answers, with the same number.
- * Numbers: 0; 19, 20: the board has then two empty ports and the factory's settings. The call inside is proved; the three
- * assignments after the call are C, and are not.
+ * Starts a board where it stands, in the profile KETPHIROJ_FULL or KETPHIROJ_READONLY and whatever it holds: afterwards it is the one
+ * that ketphiroj_start answers, with the same number. Numbers: 0; 19, 20: the board has then two empty ports, the factory's settings
+ * and the profile asked for. The call inside is proved; the four assignments after the call are C, and are not.
  */
-static inline uint8_t ketphiroj_start_board(ketphiroj_board *board, const uint8_t *page, size_t page_length)
+static inline uint8_t ketphiroj_start_board(ketphiroj_board *board, bool readonly, const uint8_t *page, size_t page_length)
 {
     ketphiroj_started_in_place answer = ketphiroj_start_in_place(
-        board->first.bytes, KETPHIROJ_PORT_ROOM, board->second.bytes, KETPHIROJ_PORT_ROOM, page, page_length);
+        readonly, board->first.bytes, KETPHIROJ_PORT_ROOM, board->second.bytes, KETPHIROJ_PORT_ROOM, page, page_length);
     board->first.held = 0;
     board->second.held = 0;
     board->settings = answer.settings;
+    board->readonly = answer.readonly;
     return answer.number;
 }
 
 /*
  * Feeds a chunk to port 0 or 1 of a board: numbers and buffers as with ketphiroj_feed_in_place. It writes the named port's bytes,
- * its held count and the settings; the other port is left alone. A refusal leaves the board as it was. The call inside is
- * proved; the choice of the port and the two assignments after the call are C, and are not.
+ * its held count and the settings; the other port and the profile are left alone. A refusal leaves the board as it was. The call
+ * inside is proved; the choice of the port and the two assignments after the call are C, and are not.
  */
 static inline ketphiroj_stepped ketphiroj_feed_board(
     uint8_t port, ketphiroj_board *board, const uint8_t *chunk, size_t chunk_length, uint8_t *room, size_t room_length,
@@ -218,8 +243,8 @@ static inline ketphiroj_stepped ketphiroj_feed_board(
 {
     ketphiroj_port *named = port == 0 ? &board->first : &board->second;
     ketphiroj_stepped answer = ketphiroj_feed_in_place(
-        port, named->bytes, KETPHIROJ_PORT_ROOM, board->first.held, board->second.held, board->settings, chunk, chunk_length,
-        room, room_length, page, page_length);
+        port, named->bytes, KETPHIROJ_PORT_ROOM, board->first.held, board->second.held, board->settings, board->readonly, chunk,
+        chunk_length, room, room_length, page, page_length);
     named->held = answer.held;
     board->settings = answer.settings;
     return answer;
@@ -234,8 +259,8 @@ static inline ketphiroj_stepped ketphiroj_silence_board(
 {
     ketphiroj_port *named = port == 0 ? &board->first : &board->second;
     ketphiroj_stepped answer = ketphiroj_silence_in_place(
-        port, named->bytes, KETPHIROJ_PORT_ROOM, board->first.held, board->second.held, board->settings, room, room_length, page,
-        page_length);
+        port, named->bytes, KETPHIROJ_PORT_ROOM, board->first.held, board->second.held, board->settings, board->readonly, room,
+        room_length, page, page_length);
     named->held = answer.held;
     board->settings = answer.settings;
     return answer;
@@ -292,10 +317,10 @@ typedef struct {
      */
     uint8_t echo;
     /*
-     * 0 to 6. 1: wrong sums; 2: no such type; 3: no such code, or no field; 4: a wrong size, function or value, fields that do not
+     * 0 to 7. 1: wrong sums; 2: no such type; 3: no such code, or no field; 4: a wrong size, function or value, fields that do not
      * fill the payload or are more than 16, or a numbered command that is too short; 5: a number that is not fresh, or none
      * where one is needed; 6: not on this board, the gyroscope's range 6 or 7, sent with function 1 or kept by the page under
-     * function 4.
+     * function 4; 7: not allowed on this port, which is port 1 of a read-only board.
      */
     uint8_t error;
     bool has_value;

@@ -89,7 +89,7 @@ static void use_three_settings(void) {
 int main(void) {
     memset(stored, 0xFF, sizeof stored);
     memcpy(page, stored, sizeof page);
-    uint8_t number = ketphiroj_start_board(&board, page, sizeof page);
+    uint8_t number = ketphiroj_start_board(&board, KETPHIROJ_FULL, page, sizeof page);
     printf("start: number %u, %u baud\n", number, board.settings.baud);
 
     uint8_t message[KETPHIROJ_LONGEST_MESSAGE];

@@ -13,10 +13,11 @@ _Static_assert(offsetof(ketphiroj_port, held) == 264 && sizeof(ketphiroj_port) =
 _Static_assert(offsetof(ketphiroj_settings, accelerometer) == 4, "settings");
 _Static_assert(offsetof(ketphiroj_settings, gyroscope) == 5 && sizeof(ketphiroj_settings) == 8, "settings");
 _Static_assert(offsetof(ketphiroj_board, second) == 272 && offsetof(ketphiroj_board, settings) == 544, "board");
-_Static_assert(sizeof(ketphiroj_board) == 552, "board");
-_Static_assert(offsetof(ketphiroj_started, board) == 8 && sizeof(ketphiroj_started) == 560, "started");
+_Static_assert(offsetof(ketphiroj_board, readonly) == 552 && sizeof(ketphiroj_board) == 560, "board");
+_Static_assert(offsetof(ketphiroj_started, board) == 8 && sizeof(ketphiroj_started) == 568, "started");
 _Static_assert(offsetof(ketphiroj_started_in_place, settings) == 0, "started in place");
 _Static_assert(offsetof(ketphiroj_started_in_place, number) == 8, "started in place");
+_Static_assert(offsetof(ketphiroj_started_in_place, readonly) == 9, "started in place");
 _Static_assert(sizeof(ketphiroj_started_in_place) == 12, "started in place");
 _Static_assert(offsetof(ketphiroj_stepped, skipped) == 8 && offsetof(ketphiroj_stepped, held) == 16, "stepped");
 _Static_assert(offsetof(ketphiroj_stepped, settings) == 24 && offsetof(ketphiroj_stepped, number) == 32, "stepped");
@@ -66,7 +67,7 @@ static bool same_board(ketphiroj_board a, ketphiroj_board b) {
     return memcmp(a.first.bytes, b.first.bytes, sizeof a.first.bytes) == 0 && a.first.held == b.first.held
         && memcmp(a.second.bytes, b.second.bytes, sizeof a.second.bytes) == 0 && a.second.held == b.second.held
         && a.settings.baud == b.settings.baud && a.settings.accelerometer == b.settings.accelerometer
-        && a.settings.gyroscope == b.settings.gyroscope;
+        && a.settings.gyroscope == b.settings.gyroscope && a.readonly == b.readonly;
 }
 
 /* A refusal returns the board given, whatever stands in it. */
@@ -79,6 +80,7 @@ static void refusal_returns_board(void) {
     board.first.held = 0x1122334455667788;
     board.second.held = 0x99AABBCCDDEEFF00;
     board.settings = (ketphiroj_settings){0x12345678, 0x9A, 0xBC};
+    board.readonly = true;
     fed_board fed = feed(2, board, room, 0);
     ketphiroj_stepped refused = fed.answer;
     agree(refused.number == KETPHIROJ_BAD_PORT && refused.taken == 0 && refused.skipped == 0 && !refused.saved, "a refusal");
@@ -91,9 +93,9 @@ static void refusal_returns_board(void) {
 
 /* Each working value is looked at in its place: a wrong one alone is refused. */
 static void settings_are_looked_at(void) {
-    ketphiroj_started refused = ketphiroj_start(page, sizeof page - 1);
+    ketphiroj_started refused = ketphiroj_start(KETPHIROJ_FULL, page, sizeof page - 1);
     agree(refused.number == KETPHIROJ_PAGE_LENGTH && refused.board.settings.baud == 115200, "a start that is refused");
-    ketphiroj_started started = ketphiroj_start(page, sizeof page);
+    ketphiroj_started started = ketphiroj_start(KETPHIROJ_FULL, page, sizeof page);
     agree(started.number == KETPHIROJ_DONE, "a start");
     ketphiroj_board good = started.board;
     agree(good.settings.baud == 115200 && good.settings.accelerometer == 2 && good.settings.gyroscope == 3, "started settings");
@@ -116,7 +118,7 @@ static void settings_are_looked_at(void) {
 static void ports_hold_bytes(void) {
     uint8_t save[16];
     size_t length = ketphiroj_write_command(0x08, 3, 0, save, sizeof save).length;
-    ketphiroj_board board = ketphiroj_start(page, sizeof page).board;
+    ketphiroj_board board = ketphiroj_start(KETPHIROJ_FULL, page, sizeof page).board;
     fed_board first = feed(0, board, save, 5);
     agree(first.answer.number == KETPHIROJ_CHUNK_USED_UP && first.answer.taken == 5, "taken");
     agree(first.board.first.held == 5 && memcmp(first.board.first.bytes, save, 5) == 0, "first.bytes");
@@ -273,7 +275,7 @@ static const uint8_t set_accelerometer[] = {0xA5, 0xA5, 0x02, 0x04, 0x07, 0x02, 
 static void settings_come_back(void) {
     const uint8_t *set = set_accelerometer;
     for (uint8_t port = 0; port < 2; port++) {
-        fed_board begun = feed(port, ketphiroj_start(page, sizeof page).board, set, 4);
+        fed_board begun = feed(port, ketphiroj_start(KETPHIROJ_FULL, page, sizeof page).board, set, 4);
         fed_board ended = feed(port, begun.board, set + 4, sizeof set_accelerometer - 4);
         agree(ended.answer.number == KETPHIROJ_DONE && ended.answer.taken == 6, "a command in two parts");
         agree(ended.answer.held == 0 && ended.board.settings.accelerometer == 3, "a setting");
@@ -285,7 +287,7 @@ static ketphiroj_stepped feed_array(uint8_t *bytes, size_t length) {
     ketphiroj_settings settings = {9600, 1, 5};
     memcpy(bytes, set_accelerometer, 4);
     return ketphiroj_feed_in_place(
-        0, bytes, length, 4, 9, settings, set_accelerometer + 4, sizeof set_accelerometer - 4, room, sizeof room, page,
+        0, bytes, length, 4, 9, settings, true, set_accelerometer + 4, sizeof set_accelerometer - 4, room, sizeof room, page,
         sizeof page);
 }
 
@@ -316,7 +318,7 @@ static void silent_arrays_are_measured(void) {
         memcpy(bytes + 4, set_accelerometer, sizeof set_accelerometer);
         memcpy(given, bytes, sizeof given);
         ketphiroj_stepped s = ketphiroj_silence_in_place(
-            1, bytes, lengths[i], 9, 15, settings, room, sizeof room, page, sizeof page);
+            1, bytes, lengths[i], 9, 15, settings, false, room, sizeof room, page, sizeof page);
         agree(s.settings.baud == 9600 && s.settings.gyroscope == 5 && s.taken == 0 && !s.saved, "settings of a silence");
         if (lengths[i] == KETPHIROJ_PORT_ROOM) {
             agree(s.number == KETPHIROJ_DONE && s.skipped == 4 && s.held == 1, "a silence of an array of 260 bytes");
@@ -331,7 +333,7 @@ static void silent_arrays_are_measured(void) {
 /* A silence of a board: each port has its own bytes and count, and a refusal returns the board given. */
 static void silences_pass(void) {
     for (uint8_t port = 0; port < 2; port++) {
-        ketphiroj_board board = ketphiroj_start(page, sizeof page).board;
+        ketphiroj_board board = ketphiroj_start(KETPHIROJ_FULL, page, sizeof page).board;
         board = feed(port, board, set_accelerometer, 4).board;
         board = feed((uint8_t) (1 - port), board, set_accelerometer, 5).board;
         ketphiroj_board given = board;
@@ -358,17 +360,26 @@ static ketphiroj_board dirty_board(void) {
     board.first.held = 0x1122334455667788;
     board.second.held = 260;
     board.settings = (ketphiroj_settings){0x12345678, 0x9A, 0xBC};
+    board.readonly = true;
     return board;
 }
 
-/* A start in place leaves the board that a start by value answers, with the same number, and the page as it was. */
+/*
+ * A start in place leaves the board that a start by value answers, with the same number, and the page as it was. Either is in the
+ * profile asked for, also where the page is refused.
+ */
 static void same_start(const uint8_t *given, size_t length, const char *what) {
-    ketphiroj_started started = ketphiroj_start(given, length);
-    ketphiroj_board board = dirty_board();
-    uint8_t before[KETPHIROJ_PAGE_SIZE + 1];
-    memcpy(before, given, length);
-    agree(ketphiroj_start_board(&board, given, length) == started.number && same_board(board, started.board), what);
-    agree(memcmp(before, given, length) == 0, "the page that a board starts on");
+    static const bool profiles[] = {KETPHIROJ_FULL, KETPHIROJ_READONLY};
+    for (size_t i = 0; i < sizeof profiles / sizeof profiles[0]; i++) {
+        ketphiroj_started started = ketphiroj_start(profiles[i], given, length);
+        ketphiroj_board board = dirty_board();
+        uint8_t before[KETPHIROJ_PAGE_SIZE + 1];
+        memcpy(before, given, length);
+        uint8_t number = ketphiroj_start_board(&board, profiles[i], given, length);
+        agree(number == started.number && same_board(board, started.board), what);
+        agree(board.readonly == profiles[i], "the profile of a start");
+        agree(memcmp(before, given, length) == 0, "the page that a board starts on");
+    }
 }
 
 /* On a page of four entries, a blank one, and ones that are refused, where the board becomes the factory's. */
@@ -380,15 +391,15 @@ static void starts_in_place(void) {
     agree(ketphiroj_write_page(values, given, KETPHIROJ_PAGE_SIZE) == KETPHIROJ_DONE, "a page of four entries");
     same_start(given, KETPHIROJ_PAGE_SIZE, "a start in place on four entries");
     ketphiroj_board board = dirty_board();
-    agree(ketphiroj_start_board(&board, given, KETPHIROJ_PAGE_SIZE) == KETPHIROJ_DONE, "number of a start in place");
+    agree(ketphiroj_start_board(&board, KETPHIROJ_FULL, given, KETPHIROJ_PAGE_SIZE) == KETPHIROJ_DONE, "number of a start in place");
     ketphiroj_settings now = board.settings;
     agree(now.baud == 921600 && now.accelerometer == 4 && now.gyroscope == 5, "settings of a start in place");
     same_start(given, KETPHIROJ_PAGE_SIZE - 1, "a start in place on 63 bytes");
     same_start(given, KETPHIROJ_PAGE_SIZE + 1, "a start in place on 65 bytes");
     given[0] = 5;
     same_start(given, KETPHIROJ_PAGE_SIZE, "a start in place on an unsound page");
-    agree(ketphiroj_start_board(&board, given, KETPHIROJ_PAGE_SIZE) == KETPHIROJ_BAD_PAGE, "number 20 in place");
-    agree(ketphiroj_start_board(&board, given, KETPHIROJ_PAGE_SIZE - 1) == KETPHIROJ_PAGE_LENGTH, "number 19 in place");
+    agree(ketphiroj_start_board(&board, KETPHIROJ_FULL, given, KETPHIROJ_PAGE_SIZE) == KETPHIROJ_BAD_PAGE, "number 20 in place");
+    agree(ketphiroj_start_board(&board, KETPHIROJ_FULL, given, KETPHIROJ_PAGE_SIZE - 1) == KETPHIROJ_PAGE_LENGTH, "number 19 in place");
 }
 
 /* Whether all bytes of a port of `dirty_board`, and the one behind them, are as they were. */
@@ -410,9 +421,10 @@ static void started_arrays_are_measured(void) {
     agree(ketphiroj_write_page(values, kept, sizeof kept) == KETPHIROJ_DONE, "a page of three entries");
     for (size_t i = 0; i < sizeof lengths / sizeof lengths[0]; i++) {
         size_t page_length = i % 2 == 0 ? sizeof kept : sizeof kept - 1;
+        bool readonly = i % 3 == 0;
         ketphiroj_started_in_place s = ketphiroj_start_in_place(
-            first, lengths[i][0], second, lengths[i][1], kept, page_length);
-        agree(s.number == KETPHIROJ_BAD_BOARD, "a start of an array that is not 260 bytes");
+            readonly, first, lengths[i][0], second, lengths[i][1], kept, page_length);
+        agree(s.number == KETPHIROJ_BAD_BOARD && s.readonly == readonly, "a start of an array that is not 260 bytes");
         agree(s.settings.baud == 115200 && s.settings.accelerometer == 2 && s.settings.gyroscope == 3, "settings of 17");
         agree(untouched(first, 0x31) && untouched(second, 0x62), "arrays of a refused start");
     }
@@ -431,7 +443,7 @@ static void numbers_pass(void) {
     w = ketphiroj_write_numbered(1, 0x08, 1, 5, message, 14);
     agree(w.number == KETPHIROJ_SHORT_ROOM && w.length == 0, "a numbered command without room");
     memset(page, 0xFF, sizeof page);
-    fed_board fed = feed(0, ketphiroj_start(page, sizeof page).board, message, 15);
+    fed_board fed = feed(0, ketphiroj_start(KETPHIROJ_FULL, page, sizeof page).board, message, 15);
     agree(fed.answer.number == KETPHIROJ_DONE && fed.answer.saved && fed.board.settings.gyroscope == 5, "a number taken");
     agree(keeps((ketphiroj_values){false, 0, false, 0, false, 0, true, 0xFEDCBA98}), "the number that a page keeps");
     fed = feed(1, fed.board, message, 15);
@@ -445,7 +457,7 @@ static void old_ranges_pass(void) {
     static const uint8_t reported[] = {0x80, 0x02, 0x08, 0x00, 0x08, 0x01, 0x07};
     ketphiroj_values old = {false, 0, false, 0, true, 7, false, 0};
     agree(ketphiroj_write_page(old, page, sizeof page) == KETPHIROJ_DONE && keeps(old), "an old page");
-    ketphiroj_started started = ketphiroj_start(page, sizeof page);
+    ketphiroj_started started = ketphiroj_start(KETPHIROJ_FULL, page, sizeof page);
     agree(started.number == KETPHIROJ_DONE && started.board.settings.gyroscope == 3, "a start on an old page");
     started.board.settings.gyroscope = 5;
     uint8_t load[9];
@@ -457,6 +469,39 @@ static void old_ranges_pass(void) {
     agree(ketphiroj_write_command(0x08, 1, 7, load, 0).number == KETPHIROJ_NO_COMMAND, "an old range to be written");
     r = reply_of(0x02, reported, sizeof reported, 0);
     agree(r.number == KETPHIROJ_DONE && r.has_value && r.value == 7, "an old range reported");
+}
+
+/* The error of the first row that a whole command on a port gets, where the profile is an argument and where it is the board's. */
+static void profile_passes(uint8_t port, bool readonly, uint8_t error) {
+    ketphiroj_settings settings = {9600, 1, 5};
+    uint8_t bytes[KETPHIROJ_PORT_ROOM] = {0}, accelerometer = error == 0 ? 3 : 1;
+    ketphiroj_stepped s = ketphiroj_feed_in_place(
+        port, bytes, sizeof bytes, 0, 0, settings, readonly, set_accelerometer, sizeof set_accelerometer, room, sizeof room, page,
+        sizeof page);
+    agree(s.number == KETPHIROJ_DONE && s.settings.accelerometer == accelerometer && room[7] == error, "a feed in a profile");
+    memcpy(bytes, set_accelerometer, sizeof set_accelerometer);
+    size_t held = sizeof set_accelerometer;
+    s = ketphiroj_silence_in_place(
+        port, bytes, sizeof bytes, port == 0 ? held : 0, port == 0 ? 0 : held, settings, readonly, room, sizeof room, page,
+        sizeof page);
+    agree(s.number == KETPHIROJ_DONE && s.settings.accelerometer == accelerometer && room[7] == error, "a silence in a profile");
+    ketphiroj_board board = ketphiroj_start(readonly, page, sizeof page).board;
+    agree(board.readonly == readonly, "the profile of a board");
+    fed_board fed = feed(port, board, set_accelerometer, sizeof set_accelerometer);
+    agree(fed.answer.number == KETPHIROJ_DONE && room[7] == error && fed.board.readonly == readonly, "a board fed in a profile");
+}
+
+/* Port 1 of a read-only board alone refuses a command that changes something. Error 7 is read; 8 is none. */
+static void profiles_pass(void) {
+    memset(page, 0xFF, sizeof page);
+    for (uint8_t port = 0; port < 2; port++) {
+        profile_passes(port, KETPHIROJ_FULL, 0);
+        profile_passes(port, KETPHIROJ_READONLY, port == 0 ? 0 : 7);
+    }
+    static const uint8_t refused[] = {0x80, 0x02, 0x07, 0x07}, none[] = {0x80, 0x02, 0x07, 0x08};
+    ketphiroj_reply r = reply_of(0x02, refused, sizeof refused, 0);
+    agree(r.number == KETPHIROJ_DONE && r.echo == 0x07 && r.error == 7, "error 7");
+    agree(row_refused(reply_of(0x02, none, sizeof none, 0), KETPHIROJ_BAD_TYPE), "no error 8");
 }
 
 int main(void) {
@@ -478,6 +523,7 @@ int main(void) {
     started_arrays_are_measured();
     numbers_pass();
     old_ranges_pass();
+    profiles_pass();
     printf("layout: %d agree, %d differ\n", agreeing, differing);
     return differing != 0;
 }

@@ -28,7 +28,7 @@ static void expect(bool holds, const char *what) {
 /* Power on: the board starts on the stored page, and of what it held nothing is left. */
 static void power_on(void) {
     memcpy(page, stored, sizeof page);
-    uint8_t number = ketphiroj_start_board(&board, page, sizeof page);
+    uint8_t number = ketphiroj_start_board(&board, KETPHIROJ_FULL, page, sizeof page);
     expect(number == KETPHIROJ_DONE, "the stored page is blank or sound");
 }
 

@@ -45,7 +45,77 @@ pub struct Settings {
     pub gyroscope: u8,
 }
 
-/// The board's state between two calls: two ports and the working values.
+/// What the ports of a board may do. A start is told it, the board keeps it, and no feed or silence changes it. The page does
+/// not keep it: a board that starts anew, as after a power cut, is told it again.
+#[derive(Clone, Copy, Debug, PartialEq, Eq, Hash)]
+pub enum Profile {
+    /// Either port may do everything.
+    Full,
+    /// Port 1 may use Ping and function 2 only, and port 0 everything.
+    ///
+    /// Functions 1, 3, 4 and 5 on port 1 are answered with error 7, not allowed on this port, field by field: an unknown code is
+    /// 3 before that, and what would be 4 or 6 of a field's own comes after it. Every numbered command with right sums on port 1
+    /// gets one row with error 7, whatever stands in it, and its number is not spent.
+    ///
+    /// What is promised: whatever comes on port 1, in feeds and silences of any number, between those of port 0 or without
+    /// them, port 0 does not see it. Of each call of port 0 the outcome, the reply, what port 0 then holds, the working
+    /// settings and the page are the same. That is proved of the library, for every list of calls, refused ones included.
+    ///
+    /// What is not: port 1 still learns the working settings, since function 2 reports them, and so what port 0 does to them;
+    /// who reads there can pass that on. Nor is time covered: how long a call takes, and when port 0 is served while much
+    /// comes on port 1, is the driver's affair.
+    ///
+    /// ```
+    /// use ketphiroj::{code, function, read_reply, write_command, write_numbered, Board, Outcome, Profile, Refusal};
+    ///
+    /// /// Feeds a whole message. Gives the error of the reply's first row, and the value that it reports.
+    /// fn answer(board: &mut Board, port: u8, message: &[u8], page: &mut [u8]) -> Result<(u8, Option<u32>), Refusal> {
+    ///     let mut room = [0; Board::REPLY];
+    ///     let Outcome::Reported { reply, .. } = board.feed(port, message, &mut room, page)? else {
+    ///         panic!("the message is whole");
+    ///     };
+    ///     let row = read_reply(&room[..reply], 0)?;
+    ///     Ok((row.error, row.value))
+    /// }
+    ///
+    /// let mut page = [0xFF; 64];
+    /// let mut board = Board::start(Profile::ReadOnly, &page)?;
+    /// let mut message = [0; 15];
+    ///
+    /// // Port 1 may ask, and may not save. Port 0 may.
+    /// let ask = write_command(code::GYROSCOPE, function::REPORT, 0, &mut message)?;
+    /// assert_eq!(answer(&mut board, 1, &message[..ask], &mut page)?, (0, Some(3)));
+    /// let save = write_command(code::GYROSCOPE, function::SAVE, 0, &mut message)?;
+    /// assert_eq!(answer(&mut board, 1, &message[..save], &mut page)?, (7, None));
+    /// assert_eq!(page, [0xFF; 64]);
+    /// assert_eq!(answer(&mut board, 0, &message[..save], &mut page)?, (0, None));
+    /// assert_ne!(page, [0xFF; 64]);
+    ///
+    /// // A number that comes on port 1 is not spent: port 0 may still use it.
+    /// let length = write_numbered(1, code::GYROSCOPE, function::USE, 5, &mut message)?;
+    /// assert_eq!(answer(&mut board, 1, &message[..length], &mut page)?, (7, None));
+    /// assert_eq!(answer(&mut board, 0, &message[..length], &mut page)?, (0, None));
+    /// assert_eq!(board.settings.gyroscope, 5);
+    /// # Ok::<(), Refusal>(())
+    /// ```
+    ReadOnly,
+}
+
+impl Profile {
+    /// The profile that the flag of the C interface stands for.
+    const fn of(readonly: bool) -> Profile {
+        match readonly {
+            true => Profile::ReadOnly,
+            false => Profile::Full,
+        }
+    }
+
+    const fn is_readonly(self) -> bool {
+        matches!(self, Profile::ReadOnly)
+    }
+}
+
+/// The board's state between two calls: two ports, the working values and the profile.
 ///
 /// It is plain data, to be kept, copied and sent as one likes. The next feed or silence refuses it ([`Refusal::Unsound`]) where a
 /// held count, of either port, is over 260 or a value is none that this board works with. Any held bytes are accepted,
@@ -59,6 +129,8 @@ pub struct Board {
     pub second: Port,
     /// The working values.
     pub settings: Settings,
+    /// Whether it is read-only: [`Board::profile`] as the C interface has it. A start puts it here, and the calls only read it.
+    pub readonly: bool,
 }
 
 /// What an accepted feed did, or an accepted silence, which takes no byte.
@@ -106,45 +178,50 @@ impl Board {
     /// The longest reply, to a command of 16 fields, and the least room of a feed and of a silence.
     pub const REPLY: usize = 166;
 
-    /// Starts a board on the values that the page keeps, or the factory's where it keeps none. A page of an older board
-    /// may keep the gyroscope's range 6 or 7, which this board does not have: it starts on the factory's, and the page
-    /// stays as it is.
+    /// Starts a board in a profile, on the values that the page keeps, or the factory's where it keeps none. A page of an
+    /// older board may keep the gyroscope's range 6 or 7, which this board does not have: it starts on the factory's, and
+    /// the page stays as it is.
     ///
     /// Refuses with [`Refusal::PageLength`] and [`Refusal::Page`].
     ///
     /// ```
-    /// use ketphiroj::{Board, Refusal, Values};
+    /// use ketphiroj::{Board, Profile, Refusal, Values};
     ///
-    /// let board = Board::start(&[0xFF; 64])?;
-    /// assert_eq!(board.settings.baud, 115200);
-    /// assert_eq!(Board::start(&[0xFF; 63]), Err(Refusal::PageLength));
-    /// assert_eq!(Board::start(&[0x00; 64]), Err(Refusal::Page));
+    /// let board = Board::start(Profile::Full, &[0xFF; 64])?;
+    /// assert_eq!((board.settings.baud, board.profile()), (115200, Profile::Full));
+    /// assert_eq!(Board::start(Profile::Full, &[0xFF; 63]), Err(Refusal::PageLength));
+    /// assert_eq!(Board::start(Profile::Full, &[0x00; 64]), Err(Refusal::Page));
     ///
     /// // The page of an older board.
     /// let mut page = [0xFF; 64];
     /// Values { accelerometer: Some(4), gyroscope: Some(7), ..Values::default() }.write(&mut page)?;
-    /// let settings = Board::start(&page)?.settings;
+    /// let settings = Board::start(Profile::Full, &page)?.settings;
     /// assert_eq!((settings.accelerometer, settings.gyroscope), (4, 3));
     /// # Ok::<(), Refusal>(())
     /// ```
-    pub fn start(page: &[u8]) -> Result<Board, Refusal> {
-        let started = ffi::start(page);
+    pub fn start(profile: Profile, page: &[u8]) -> Result<Board, Refusal> {
+        let started = ffi::start(profile.is_readonly(), page);
         done_or_refused(started.number)?;
         Ok(started.board)
     }
 
-    /// Starts the board where it stands, whatever it holds: afterwards it is the one that [`Board::start`] gives. It takes
-    /// less stack, since no board is handed over by value.
+    /// The profile that the board was started in.
+    pub const fn profile(&self) -> Profile {
+        Profile::of(self.readonly)
+    }
+
+    /// Starts the board where it stands, in a profile and whatever it holds: afterwards it is the one that [`Board::start`]
+    /// gives. It takes less stack, since no board is handed over by value.
     ///
-    /// Refuses with [`Refusal::PageLength`] and [`Refusal::Page`]; the board then has two fresh ports and the factory's
-    /// settings.
+    /// Refuses with [`Refusal::PageLength`] and [`Refusal::Page`]; the board then has two fresh ports, the factory's settings
+    /// and the profile asked for.
     ///
     /// ```
-    /// use ketphiroj::{Board, Port, Refusal, Settings};
+    /// use ketphiroj::{Board, Port, Profile, Refusal, Settings};
     ///
     /// let mut page = [0xFF; 64];
     /// let mut room = [0; Board::REPLY];
-    /// let mut board = Board::start(&page)?;
+    /// let mut board = Board::start(Profile::Full, &page)?;
     ///
     /// // The accelerometer's range is set to 4, and then comes the front of another message, which is held.
     /// let set = [0xA5, 0xA5, 0x02, 0x04, 0x07, 0x02, 0x01, 0x04, 0x5E, 0xF3];
@@ -153,23 +230,26 @@ impl Board {
     /// assert_eq!((board.settings.accelerometer, board.first.held), (4, 5));
     ///
     /// // Neither is on the page, so that a start forgets them.
-    /// board.start_in_place(&page)?;
+    /// board.start_in_place(Profile::Full, &page)?;
     /// assert_eq!((board.settings.accelerometer, board.first.held), (2, 0));
-    /// assert_eq!(board, Board::start(&page)?);
+    /// assert_eq!(board, Board::start(Profile::Full, &page)?);
     ///
-    /// // So does a start that is refused.
+    /// // So does a start that is refused. The board is in the profile that was asked for.
     /// board.feed(0, &set, &mut room, &mut page)?;
     /// board.feed(1, &set[..5], &mut room, &mut page)?;
-    /// assert_eq!(board.start_in_place(&[0x00; 64]), Err(Refusal::Page));
+    /// assert_eq!(board.start_in_place(Profile::ReadOnly, &[0x00; 64]), Err(Refusal::Page));
     /// let factory = Settings { baud: 115200, accelerometer: 2, gyroscope: 3 };
-    /// assert_eq!(board, Board { first: Port::new(), second: Port::new(), settings: factory });
+    /// assert_eq!(board, Board { first: Port::new(), second: Port::new(), settings: factory, readonly: true });
+    /// assert_eq!(board.profile(), Profile::ReadOnly);
     /// # Ok::<(), Refusal>(())
     /// ```
-    pub fn start_in_place(&mut self, page: &[u8]) -> Result<(), Refusal> {
-        let started = ffi::start_in_place(&mut self.first.bytes, &mut self.second.bytes, page);
+    pub fn start_in_place(&mut self, profile: Profile, page: &[u8]) -> Result<(), Refusal> {
+        let readonly = profile.is_readonly();
+        let started = ffi::start_in_place(readonly, &mut self.first.bytes, &mut self.second.bytes, page);
         self.first.held = 0;
         self.second.held = 0;
         self.settings = started.settings;
+        self.readonly = started.readonly;
         done_or_refused(started.number)
     }
 
@@ -192,6 +272,8 @@ impl Board {
     /// with error 5 what would change something and has no number (functions 1, 3, 4 and 5); port 1 takes it. After
     /// 4294967295 no number is fresh until the page is erased.
     ///
+    /// Port 1 of a read-only board takes neither what would change something nor a numbered command: [`Profile::ReadOnly`].
+    ///
     /// So no number is ever accepted twice over one page, whatever is fed and however often the board starts anew. Over a
     /// power cut that holds only if the page is stored where `saved` says so, whole or not at all, **before the reply is
     /// sent** and the settings are put to use: a number that was answered and is not on the stored page would be accepted
@@ -205,10 +287,10 @@ impl Board {
     /// it calls [`Board::silence`]:
     ///
     /// ```
-    /// use ketphiroj::{Board, Outcome, Refusal};
+    /// use ketphiroj::{Board, Outcome, Profile, Refusal};
     ///
     /// let mut page = [0xFF; 64];
-    /// let mut board = Board::start(&page)?;
+    /// let mut board = Board::start(Profile::Full, &page)?;
     /// let mut room = [0; Board::REPLY];
     /// let mut replies = Vec::new();
     ///
@@ -236,11 +318,11 @@ impl Board {
     /// A load from the page of an older board:
     ///
     /// ```
-    /// use ketphiroj::{code, function, read_reply, write_command, Board, Outcome, Refusal, Values};
+    /// use ketphiroj::{code, function, read_reply, write_command, Board, Outcome, Profile, Refusal, Values};
     ///
     /// let mut page = [0xFF; 64];
     /// Values { gyroscope: Some(6), ..Values::default() }.write(&mut page)?;
-    /// let mut board = Board::start(&page)?;
+    /// let mut board = Board::start(Profile::Full, &page)?;
     /// board.settings.gyroscope = 5;
     ///
     /// let mut room = [0; Board::REPLY];
@@ -256,7 +338,7 @@ impl Board {
     /// A numbered command, sent again after a power cut:
     ///
     /// ```
-    /// use ketphiroj::{code, function, read_reply, write_command, write_numbered, Board, Outcome, Refusal};
+    /// use ketphiroj::{code, function, read_reply, write_command, write_numbered, Board, Outcome, Profile, Refusal};
     ///
     /// /// Feeds a command, stores the page where it was written, then sends the reply: here, reads its error.
     /// fn error(board: &mut Board, page: &mut [u8; 64], stored: &mut [u8; 64], command: &[u8]) -> Result<u8, Refusal> {
@@ -274,7 +356,7 @@ impl Board {
     ///
     /// let mut stored = [0xFF; 64];
     /// let mut page = stored;
-    /// let mut board = Board::start(&page)?;
+    /// let mut board = Board::start(Profile::Full, &page)?;
     /// let mut yesterday = [0; 15];
     /// write_numbered(1, code::ACCELEROMETER, function::USE, 4, &mut yesterday)?;
     /// assert_eq!(error(&mut board, &mut page, &mut stored, &yesterday)?, 0);
@@ -282,7 +364,7 @@ impl Board {
     ///
     /// // The power is cut, and the board starts anew on what was stored.
     /// let mut page = stored;
-    /// let mut board = Board::start(&page)?;
+    /// let mut board = Board::start(Profile::Full, &page)?;
     /// assert_eq!(error(&mut board, &mut page, &mut stored, &yesterday)?, 5);
     /// assert_eq!(board.settings.accelerometer, 2);
     /// assert_eq!(page, stored);
@@ -318,11 +400,11 @@ impl Board {
     /// taken, and goes on over the bytes that are left: a message may then begin before the silence and end after it.)
     ///
     /// ```
-    /// use ketphiroj::{Board, Outcome, Refusal, Values};
+    /// use ketphiroj::{Board, Outcome, Profile, Refusal, Values};
     ///
     /// let mut stored = [0xFF; 64];
     /// let mut page = stored;
-    /// let mut board = Board::start(&page)?;
+    /// let mut board = Board::start(Profile::Full, &page)?;
     /// let mut room = [0; Board::REPLY];
     ///
     /// // Noise that looks as a header of 255 bytes, then function 3 of the baud rate, which is held behind it.

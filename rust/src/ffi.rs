@@ -12,7 +12,7 @@
 
 use crate::board::{Board, Port, Settings};
 
-/// What starting answers. Where it is refused, the board has the factory settings and two fresh ports.
+/// What starting answers. Where it is refused, the board has the factory settings, two fresh ports and the profile asked for.
 #[derive(Clone, Copy, Debug, PartialEq, Eq)]
 #[repr(C)]
 pub struct Started {
@@ -30,6 +30,8 @@ pub struct StartedInPlace {
     pub settings: Settings,
     /// 0, 17, 19 or 20.
     pub number: u8,
+    /// Whether the board is read-only: the profile asked for, also where it is refused.
+    pub readonly: bool,
 }
 
 /// What a feed answers, and a silence, which takes no byte. Where it is refused, the counts are 0, and the held count and
@@ -71,7 +73,7 @@ pub struct FlatReply {
     pub kind: u8,
     /// The echo.
     pub echo: u8,
-    /// The error, 0 to 6.
+    /// The error, 0 to 7.
     pub error: u8,
     /// Whether a value was reported.
     pub has_value: bool,
@@ -130,8 +132,9 @@ pub struct FlatPage {
 }
 
 extern "C" {
-    fn ketphiroj_start(page: *const u8, page_length: usize) -> Started;
+    fn ketphiroj_start(readonly: bool, page: *const u8, page_length: usize) -> Started;
     fn ketphiroj_start_in_place(
+        readonly: bool,
         first: *mut u8,
         first_length: usize,
         second: *mut u8,
@@ -146,6 +149,7 @@ extern "C" {
         first: usize,
         second: usize,
         settings: Settings,
+        readonly: bool,
         quiet: bool,
         chunk: *const u8,
         chunk_length: usize,
@@ -214,19 +218,21 @@ extern "C" {
     fn ketphiroj_factory_page(room: *mut u8, room_length: usize) -> Written;
 }
 
-/// Starts a board.
-pub fn start(page: &[u8]) -> Started {
+/// Starts a board, read-only or in the full profile.
+pub fn start(readonly: bool, page: &[u8]) -> Started {
     // SAFETY: `page` is valid for reads of its length during the call.
-    unsafe { ketphiroj_start(page.as_ptr(), page.len()) }
+    unsafe { ketphiroj_start(readonly, page.as_ptr(), page.len()) }
 }
 
 /// Starts a board whose ports have these bytes, which are cleared: 17 where one of them is not 260 bytes, and nothing is
-/// written; 19, 20, and they are cleared all the same. The held counts and the settings are the caller's to put in.
-pub fn start_in_place(first: &mut [u8], second: &mut [u8], page: &[u8]) -> StartedInPlace {
+/// written; 19, 20, and they are cleared all the same. The held counts, the settings and the profile are the caller's to put
+/// in.
+pub fn start_in_place(readonly: bool, first: &mut [u8], second: &mut [u8], page: &[u8]) -> StartedInPlace {
     // SAFETY: `first` and `second` are valid for reads and writes of their lengths, `page` for reads of its own, and no
     // two of them overlap, as their borrows say.
     unsafe {
         ketphiroj_start_in_place(
+            readonly,
             first.as_mut_ptr(),
             first.len(),
             second.as_mut_ptr(),
@@ -241,7 +247,7 @@ pub fn start_in_place(first: &mut [u8], second: &mut [u8], page: &[u8]) -> Start
 /// stays where it is: only the named port's bytes are lent, and its held count and the settings are put back.
 #[inline]
 fn call_in_place(port: u8, board: &mut Board, quiet: bool, chunk: &[u8], room: &mut [u8], page: &mut [u8]) -> Stepped {
-    let (first, second, settings) = (board.first.held, board.second.held, board.settings);
+    let (first, second, settings, readonly) = (board.first.held, board.second.held, board.settings, board.readonly);
     let named = if port == 0 { &mut board.first } else { &mut board.second };
     // SAFETY: `chunk` is valid for reads of its length, the port's bytes, `room` and `page` for reads and writes of
     // theirs, and no two of them overlap, as their borrows say.
@@ -253,6 +259,7 @@ fn call_in_place(port: u8, board: &mut Board, quiet: bool, chunk: &[u8], room: &
             first,
             second,
             settings,
+            readonly,
             quiet,
             chunk.as_ptr(),
             chunk.len(),
@@ -386,10 +393,10 @@ const _: () = {
     use std::mem::{offset_of, size_of};
     assert!(size_of::<Port>() == 272 && offset_of!(Port, held) == 264);
     assert!(size_of::<Settings>() == 8 && offset_of!(Settings, gyroscope) == 5);
-    assert!(size_of::<Board>() == 552 && offset_of!(Board, settings) == 544);
-    assert!(size_of::<Started>() == 560 && offset_of!(Started, board) == 8);
+    assert!(size_of::<Board>() == 560 && offset_of!(Board, settings) == 544 && offset_of!(Board, readonly) == 552);
+    assert!(size_of::<Started>() == 568 && offset_of!(Started, board) == 8);
     assert!(size_of::<StartedInPlace>() == 12 && offset_of!(StartedInPlace, settings) == 0);
-    assert!(offset_of!(StartedInPlace, number) == 8);
+    assert!(offset_of!(StartedInPlace, number) == 8 && offset_of!(StartedInPlace, readonly) == 9);
     assert!(size_of::<Stepped>() == 40 && offset_of!(Stepped, number) == 32 && offset_of!(Stepped, saved) == 33);
     assert!(size_of::<Written>() == 16 && offset_of!(Written, length) == 8);
     assert!(size_of::<FlatReply>() == 12 && offset_of!(FlatReply, value) == 8);

@@ -2,15 +2,16 @@
 //! ports.
 //!
 //! The library is written in Rattle and proved; `rt staticlib capi` writes it as a static library, and this crate links
-//! it. What each call answers is the paper's ("01", the board's protocol, line by line, with requests 01 to 06 of the
-//! change requests), or for a call that the paper does not list what docs/DECISIONS.md says, for every input. Nothing
-//! here adds to it: refusals become the errors of [`Refusal`], numbers become enums, and lengths become slices.
+//! it. What each call answers is the paper's ("01", the board's protocol, line by line, with requests 01 to 06 and 12
+//! of the change requests), or for a call that the paper does not list what docs/DECISIONS.md says, for every input.
+//! Nothing here adds to it: refusals become the errors of [`Refusal`], numbers become enums, and lengths become slices.
 //!
 //! | Call | What it does |
 //! |---|---|
 //! | [`Board::start`], [`Board::feed`] | the board: bytes in, replies out, settings and the start-up page kept |
 //! | [`Board::silence`] | the line has gone quiet: what is held is read to its end |
 //! | [`Board::start_in_place`] | the same start where a board stands, with less stack |
+//! | [`Profile`] | what a board is started in: whether port 1 may change anything |
 //! | [`check_message`], [`write_message`] | one whole message |
 //! | [`write_command`], [`write_numbered`], [`append_field`], [`read_reply`], [`read_rows`] | the controller's side |
 //! | [`read_field`], [`field_data`], [`write_data`], [`write_data_bits`] | the data message |
@@ -19,10 +20,10 @@
 //! [`ffi`] has the same calls one to one, with the numbers and records of the C interface.
 //!
 //! ```
-//! use ketphiroj::{Board, Outcome};
+//! use ketphiroj::{Board, Outcome, Profile};
 //!
 //! let mut page = [0xFF; 64];
-//! let mut board = Board::start(&page)?;
+//! let mut board = Board::start(Profile::Full, &page)?;
 //! let mut room = [0; Board::REPLY];
 //!
 //! // A byte of noise, then a Ping.
@@ -44,7 +45,7 @@ mod page;
 mod refusal;
 mod reply;
 
-pub use board::{Board, Outcome, Port, Settings};
+pub use board::{Board, Outcome, Port, Profile, Settings};
 pub use data::{field_data, read_field, write_data, write_data_bits, Axes, Field};
 pub use message::{
     append_field, check_message, code, function, write_command, write_message, write_numbered, NUMBERED,

@@ -13,7 +13,8 @@ pub struct Reply {
     pub echo: u8,
     /// 0 done, 1 sums wrong, 2 unknown type, 3 unknown code or no field, 4 a wrong size, function or value, or the fields
     /// do not fill the payload or are more than 16, or a numbered command is too short, 5 the number is not fresh, or there
-    /// is none where one is needed, 6 not on this board: the gyroscope's range 6 or 7, sent or kept by the page.
+    /// is none where one is needed, 6 not on this board: the gyroscope's range 6 or 7, sent or kept by the page, 7 not
+    /// allowed on this port: what port 1 of a read-only board does not do ([`Profile::ReadOnly`](crate::Profile::ReadOnly)).
     pub error: u8,
     /// The working value, where one was reported; its code is the echo. Older boards report the gyroscope's ranges 6 and 7,
     /// too.

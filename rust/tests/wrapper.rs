@@ -1,10 +1,10 @@
 //! The paper's sample lines through the wrapper, starts in place, every refusal, numbered commands over a power cut, the
-//! gyroscope's ranges of older boards, and silences.
+//! gyroscope's ranges of older boards, silences, and read-only boards.
 
 use ketphiroj::{
     append_field, check_message, check_page, code, copy_body, factory_page, field_data, function, read_field,
-    read_reply, read_rows, write_command, write_data, write_message, write_numbered, Board, Outcome, Port, Refusal,
-    Reply, Settings, Values, NUMBERED, PAGE,
+    read_reply, read_rows, write_command, write_data, write_message, write_numbered, Board, Outcome, Port, Profile,
+    Refusal, Reply, Settings, Values, NUMBERED, PAGE,
 };
 
 const BLANK: [u8; PAGE] = [0xFF; PAGE];
@@ -17,7 +17,7 @@ fn hex(text: &str) -> Vec<u8> {
 
 /// A board on a blank page, and the page.
 fn fresh() -> (Board, [u8; PAGE]) {
-    (Board::start(&BLANK).unwrap(), BLANK)
+    (Board::start(Profile::Full, &BLANK).unwrap(), BLANK)
 }
 
 /// Feeds a chunk to port 0 until it is used up. Gives the replies.
@@ -151,7 +151,7 @@ fn three_settings() {
     assert_eq!(page[..16], hex("03 010A04 070E01 080F01 000E1000 04 05"));
 
     // Starting takes them from the page, and so does a load after others were set.
-    let mut board = Board::start(&page).unwrap();
+    let mut board = Board::start(Profile::Full, &page).unwrap();
     assert_eq!(board.settings, settings);
     let others = command(function::USE, &[(code::GYROSCOPE, 1), (code::BAUD, 9600), (code::ACCELEROMETER, 1)]);
     replies(&mut board, &others, &mut page);
@@ -207,12 +207,16 @@ struct Driver {
 
 impl Driver {
     fn start(stored: [u8; PAGE]) -> Driver {
-        Driver { board: Board::start(&stored).unwrap(), page: stored, stored }
+        Driver::start_in(Profile::Full, stored)
     }
 
-    /// Cuts the power: what is left is the stored page.
+    fn start_in(profile: Profile, stored: [u8; PAGE]) -> Driver {
+        Driver { board: Board::start(profile, &stored).unwrap(), page: stored, stored }
+    }
+
+    /// Cuts the power: what is left is the stored page, and the profile that the driver knows.
     fn cut(self) -> Driver {
-        Driver::start(self.stored)
+        Driver::start_in(self.board.profile(), self.stored)
     }
 
     /// Feeds one whole message, stores the page where it was written, and gives the errors of the reply's rows.
@@ -370,7 +374,7 @@ fn numbered_commands_refused() {
     ] {
         let mut page = BLANK;
         Values { last_number: Some(100), ..Values::default() }.write(&mut page).unwrap();
-        let mut board = Board::start(&page).unwrap();
+        let mut board = Board::start(Profile::Full, &page).unwrap();
         let mut room = [0; Board::REPLY];
         let mut bytes = message(NUMBERED, &hex(payload));
         let outcome = board.feed(0, &bytes, &mut room, &mut page).unwrap();
@@ -383,7 +387,7 @@ fn numbered_commands_refused() {
         let end = bytes.len() - 1;
         bytes[end] ^= 1;
         let mut page = BLANK;
-        let outcome = Board::start(&page).unwrap().feed(0, &bytes, &mut room, &mut page).unwrap();
+        let outcome = Board::start(Profile::Full, &page).unwrap().feed(0, &bytes, &mut room, &mut page).unwrap();
         assert_eq!(outcome, Outcome::Reported { taken: bytes.len(), skipped: 1, saved: false, reply: 10 });
         assert_eq!((room[6..8].to_vec(), page), (vec![0, 1], BLANK));
     }
@@ -490,7 +494,7 @@ fn old_ranges_written_and_read() {
     assert_eq!(write_command(code::GYROSCOPE, function::LOAD, 6, &mut room), Ok(9));
     let error = Reply { kind: 0x02, echo: code::GYROSCOPE, error: 6, value: None };
     assert_eq!(read_reply(&hex("A5A50204 80020806 E0E7"), 0), Ok(error));
-    assert_eq!(read_reply(&message(0x02, &hex("80020807")), 0), Err(Refusal::Kind));
+    assert_eq!(read_reply(&message(0x02, &hex("80020808")), 0), Err(Refusal::Kind));
     assert_eq!(read_reply(&message(0x02, &hex("80020806 080106")), 0), Err(Refusal::Kind));
     assert_eq!(read_reply(&message(0x02, &hex("80020800 080108")), 0), Err(Refusal::Kind));
 }
@@ -501,14 +505,19 @@ fn dirty_boards() -> [Board; 3] {
     let (full, empty) = (Port { bytes: [0xA5; 260], held: 260 }, Port { bytes: [0x77; 260], held: 0 });
     let unsound = Settings { baud: 0, accelerometer: 0xFF, gyroscope: 0 };
     [
-        Board { first: full, second: empty, settings },
-        Board { first: empty, second: full, settings },
-        Board { first: Port { held: usize::MAX, ..full }, second: Port { held: 261, ..full }, settings: unsound },
+        Board { first: full, second: empty, settings, readonly: false },
+        Board { first: empty, second: full, settings, readonly: true },
+        Board {
+            first: Port { held: usize::MAX, ..full },
+            second: Port { held: 261, ..full },
+            settings: unsound,
+            readonly: true,
+        },
     ]
 }
 
-/// A start in place gives the board of a start by value, from a board of any contents. Where the start is refused, that
-/// is the factory's board, as a blank page gives it.
+/// A start in place gives the board of a start by value, from a board of any contents and profile. Where the start is
+/// refused, that is the factory's board, as a blank page gives it, in the profile asked for.
 #[test]
 fn starts_in_place() {
     let page = |baud, accelerometer, gyroscope, last_number| {
@@ -529,15 +538,25 @@ fn starts_in_place() {
         [0; PAGE],
     ];
     let lengths = pages.iter().flat_map(|page| [&page[..], &page[1..], &page[..0]]);
-    for (given, mut board) in lengths.flat_map(|given| dirty_boards().map(|board| (given, board))) {
-        let started = Board::start(given);
-        assert_eq!(board.start_in_place(given), started.map(|_| ()), "{given:02X?}");
-        assert_eq!(board, started.unwrap_or(factory), "{given:02X?}");
+    for (given, board) in lengths.flat_map(|given| dirty_boards().map(|board| (given, board))) {
+        for profile in [Profile::Full, Profile::ReadOnly] {
+            let (mut board, started) = (board, Board::start(profile, given));
+            assert_eq!(board.start_in_place(profile, given), started.map(|_| ()), "{given:02X?}");
+            let refused = Board { readonly: profile == Profile::ReadOnly, ..factory };
+            assert_eq!(board, started.unwrap_or(refused), "{given:02X?}");
+            assert_eq!(board.profile(), profile);
+        }
     }
-    assert_eq!(Board::start(&pages[2]).unwrap().settings, Settings { baud: 921600, accelerometer: 4, gyroscope: 5 });
-    assert_eq!(Board::start(&pages[3]).unwrap().settings, Settings { baud: 921600, accelerometer: 4, gyroscope: 3 });
-    assert_eq!(dirty_boards()[0].start_in_place(&unsound), Err(Refusal::Page));
-    assert_eq!(dirty_boards()[0].start_in_place(&BLANK[1..]), Err(Refusal::PageLength));
+    assert_eq!(
+        Board::start(Profile::Full, &pages[2]).unwrap().settings,
+        Settings { baud: 921600, accelerometer: 4, gyroscope: 5 }
+    );
+    assert_eq!(
+        Board::start(Profile::Full, &pages[3]).unwrap().settings,
+        Settings { baud: 921600, accelerometer: 4, gyroscope: 3 }
+    );
+    assert_eq!(dirty_boards()[0].start_in_place(Profile::Full, &unsound), Err(Refusal::Page));
+    assert_eq!(dirty_boards()[0].start_in_place(Profile::Full, &BLANK[1..]), Err(Refusal::PageLength));
 }
 
 /// A board that is started in place answers as a fresh one: nothing that it held is left, and a save that was stored is
@@ -550,7 +569,7 @@ fn restart_in_place() {
     assert_eq!(replies(&mut board, &[set, save].concat(), &mut page).len(), 2);
     let ping = hex("A5A5010202004F25");
     assert!(replies(&mut board, &ping[..7], &mut page).is_empty());
-    board.start_in_place(&page).unwrap();
+    board.start_in_place(Profile::Full, &page).unwrap();
     assert_eq!((board.first.held, board.settings.gyroscope), (0, 5));
     assert!(replies(&mut board, &ping[7..], &mut page).is_empty());
     assert_eq!(replies(&mut board, &ping, &mut page), [hex("A5A5010480020200D3CF")]);
@@ -664,6 +683,106 @@ fn silence_and_numbers() {
     assert_eq!(driver.errors(1, &held[4..]), [5]);
 }
 
+/// The profile that a start was told is the board's after feeds and silences of either port, accepted and refused.
+#[test]
+fn profiles_are_kept() {
+    for profile in [Profile::Full, Profile::ReadOnly] {
+        let (mut board, mut page) = (Board::start(profile, &BLANK).unwrap(), BLANK);
+        for (port, chunk, room) in [(0, PING, 166), (1, "A5A501FF", 166), (1, PING, 165), (0, "A5", 166), (2, "", 166)]
+        {
+            let mut room = vec![0; room];
+            let fed = board.feed(port, &hex(chunk), &mut room, &mut page);
+            assert_eq!(board.profile(), profile, "{fed:?}");
+            let silent = board.silence(port, &mut room, &mut page);
+            assert_eq!((board.profile(), board.readonly), (profile, profile == Profile::ReadOnly), "{silent:?}");
+        }
+    }
+}
+
+/// On port 1 of a read-only board Ping and reports are answered; what would change something, and every numbered command with
+/// right sums, gets error 7, and nothing changes. On port 0 the same bytes are taken as on any board.
+#[test]
+fn read_only_board() {
+    let mut damaged = numbered(1, code::BAUD, function::SAVE, 0);
+    let last = damaged.len() - 1;
+    damaged[last] ^= 1;
+    for (bytes, port_1, port_0) in [
+        (hex(PING), vec![0], vec![0]),
+        (command(function::REPORT, &[(code::BAUD, 0), (code::GYROSCOPE, 0)]), vec![0, 0], vec![0, 0]),
+        (command(function::USE, &[(code::BAUD, 9600), (code::GYROSCOPE, 5)]), vec![7, 7], vec![0, 0]),
+        (command(function::SAVE, &[(code::ACCELEROMETER, 0); 16]), vec![7; 16], vec![0; 16]),
+        (command(function::LOAD, &[(code::BAUD, 0)]), vec![7], vec![0]),
+        (command(function::FACTORY, &[(code::BAUD, 0)]), vec![7], vec![0]),
+        (message(0x02, &hex("6301 01 08020107 0800 080102 080106")), vec![3, 7, 4, 0, 4], vec![3, 6, 4, 0, 4]),
+        (message(0x02, &hex("070103 08")), vec![4], vec![4]),
+        (numbered(1, code::ACCELEROMETER, function::USE, 4), vec![7], vec![0]),
+        (numbered(1, code::PING, 0, 0), vec![7], vec![0]),
+        (message(NUMBERED, &hex("000001")), vec![7], vec![4]),
+    ] {
+        let mut driver = Driver::start_in(Profile::ReadOnly, BLANK);
+        let before = driver.board;
+        assert_eq!(driver.errors(1, &bytes), port_1, "{bytes:02X?}");
+        assert_eq!((driver.board, driver.page, driver.stored), (before, BLANK, BLANK), "{bytes:02X?}");
+        assert_eq!(driver.errors(0, &bytes), port_0, "{bytes:02X?}");
+        assert_eq!(Driver::start(BLANK).errors(1, &bytes), port_0, "{bytes:02X?}");
+    }
+    let (mut board, mut page, mut room) = (Board::start(Profile::ReadOnly, &BLANK).unwrap(), BLANK, [0; Board::REPLY]);
+    board.feed(1, &damaged, &mut room, &mut page).unwrap();
+    assert_eq!(room[..10], message(NUMBERED, &hex("80020001")));
+}
+
+/// What port 0 sees after each of its calls: the outcome, the reply, the bytes that it holds, the settings and the page.
+type Seen = Vec<(Outcome, Vec<u8>, Port, Settings, [u8; PAGE])>;
+
+/// A day on port 0 of a read-only board, before each command of which something comes on port 1.
+fn day_beside(other: impl Fn(usize, &mut Board, &mut [u8; PAGE])) -> Seen {
+    let (mut board, mut page) = (Board::start(Profile::ReadOnly, &BLANK).unwrap(), BLANK);
+    let mut seen = Vec::new();
+    for (place, (bytes, _)) in day().into_iter().enumerate() {
+        other(place, &mut board, &mut page);
+        let mut room = [0; Board::REPLY];
+        // Every other command waits behind a false header until the line is silent.
+        let outcome = match place % 2 {
+            0 => board.feed(0, &bytes, &mut room, &mut page).unwrap(),
+            _ => {
+                let held = [hex("A5A501FF"), bytes].concat();
+                assert_eq!(board.feed(0, &held, &mut room, &mut page).unwrap().taken(), held.len());
+                other(place + 1, &mut board, &mut page);
+                board.silence(0, &mut room, &mut page).unwrap()
+            }
+        };
+        seen.push((outcome, room.to_vec(), board.first, board.settings, page));
+    }
+    seen
+}
+
+/// Port 0 of a read-only board does not see what comes on port 1: nothing, the same commands with the same numbers and larger
+/// ones, or saves behind false headers. On a board of the full profile it does.
+#[test]
+fn port_0_sees_nothing_of_port_1() {
+    let feed = |board: &mut Board, bytes: &[u8], page: &mut [u8; PAGE]| {
+        board.feed(1, bytes, &mut [0; Board::REPLY], page).unwrap();
+    };
+    let alone = day_beside(|_, _, _| ());
+    assert_eq!(alone.len(), 9);
+    assert!(alone.iter().all(|(outcome, ..)| matches!(outcome, Outcome::Reported { saved: true, .. })));
+    let replayed = day_beside(|place, board, page| feed(board, &day()[place % 9].0, page));
+    assert_eq!(replayed, alone);
+    let larger = numbered(u32::MAX, code::GYROSCOPE, function::USE, 2);
+    assert_eq!(day_beside(|_, board, page| feed(board, &larger, page)), alone);
+    let save = [hex("A5A502FF"), command(function::SAVE, &[(code::BAUD, 0)])].concat();
+    let silent = day_beside(|_, board, page| {
+        feed(board, &save, page);
+        board.silence(1, &mut [0; Board::REPLY], page).unwrap();
+    });
+    assert_eq!(silent, alone);
+    let full = day_beside(|_, board, page| {
+        board.readonly = false;
+        feed(board, &larger, page);
+    });
+    assert_ne!(full, alone);
+}
+
 /// A refused feed or silence leaves board, room and page as they were.
 #[test]
 fn refused_feeds_and_silences() {
@@ -697,7 +816,7 @@ fn refused_feeds_and_silences() {
 #[test]
 fn refusals_of_the_other_calls() {
     let mut room = [0; 300];
-    assert_eq!(Board::start(&BLANK[1..]), Err(Refusal::PageLength));
+    assert_eq!(Board::start(Profile::Full, &BLANK[1..]), Err(Refusal::PageLength));
     assert_eq!(check_page(&[0; 64]), Err(Refusal::Page));
     assert_eq!(check_message(&hex("A5A5010202004F")), Err(Refusal::NotWhole));
     assert_eq!(check_message(&hex("A5A5010202004F24")), Err(Refusal::Sums));

@@ -9,7 +9,7 @@
 //! expensive drain should be of headers as close as they can stand, each of which claims as much as is held. A good message
 //! should cost less for its length: all of its bytes are read with it.
 
-use ketphiroj::{Board, Outcome, Port, Values, PAGE};
+use ketphiroj::{Board, Outcome, Port, Profile, Values, PAGE};
 use std::hint::black_box;
 use std::time::Instant;
 
@@ -102,7 +102,7 @@ const REPEATS: u32 = 200;
 impl Case {
     /// A board whose port 0 holds these bytes.
     fn holding(bytes: &[u8]) -> Board {
-        let mut board = Board::start(&page()).expect("a sound page");
+        let mut board = Board::start(Profile::Full, &page()).expect("a sound page");
         board.first.bytes[..bytes.len()].copy_from_slice(bytes);
         board.first.held = bytes.len();
         board

@@ -1,7 +1,7 @@
 //! The library, through its wrapper: one port, fed piece by piece, each piece until it is used up.
 
 use crate::{Counts, PIECE};
-use ketphiroj::{Board, Outcome, PAGE};
+use ketphiroj::{Board, Outcome, Profile, PAGE};
 
 /// A board with a page that is blank at first; port 0 is fed.
 pub struct Library {
@@ -13,7 +13,8 @@ pub struct Library {
 impl Default for Library {
     fn default() -> Library {
         let page = [0xFF; PAGE];
-        Library { board: Board::start(&page).expect("a blank page"), page, counts: Counts::default() }
+        let board = Board::start(Profile::Full, &page).expect("a blank page");
+        Library { board, page, counts: Counts::default() }
     }
 }
 

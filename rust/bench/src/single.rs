@@ -1,6 +1,6 @@
 //! Single feeds of a few kinds, to see what a feed costs beside the scan.
 
-use ketphiroj::{Board, Values};
+use ketphiroj::{Board, Profile, Values};
 use std::time::Instant;
 
 /// One feed that leaves the board as it was, so that it can be repeated.
@@ -93,7 +93,7 @@ impl Case {
         let mut smallest = f64::MAX;
         for _ in 0..runs {
             let mut page = self.page;
-            let mut board = Board::start(&page).expect("a sound page");
+            let mut board = Board::start(Profile::Full, &page).expect("a sound page");
             let begin = Instant::now();
             for _ in 0..FEEDS {
                 self.feed(&mut board, &mut page);

@@ -8,7 +8,7 @@
 
 mod painted;
 
-use ketphiroj::{read_rows, Board, Outcome, Port, PAGE};
+use ketphiroj::{read_rows, Board, Outcome, Port, Profile, PAGE};
 use painted::{own_stack, pages, print_heading, print_row};
 use raw::{PortCall, Start};
 
@@ -54,6 +54,7 @@ mod raw {
         usize,
         Settings,
         bool,
+        bool,
         *const u8,
         usize,
         *mut u8,
@@ -61,7 +62,7 @@ mod raw {
         *mut u8,
         usize,
     ) -> MaybeUninit<Stepped>;
-    type StartFunction = unsafe extern "C" fn(*const u8, usize) -> MaybeUninit<Started>;
+    type StartFunction = unsafe extern "C" fn(bool, *const u8, usize) -> MaybeUninit<Started>;
 
     extern "C" {
         fn ketphiroj_call_in_place(
@@ -71,6 +72,7 @@ mod raw {
             first: usize,
             second: usize,
             settings: Settings,
+            readonly: bool,
             quiet: bool,
             chunk: *const u8,
             chunk_length: usize,
@@ -79,7 +81,7 @@ mod raw {
             page: *mut u8,
             page_length: usize,
         ) -> MaybeUninit<Stepped>;
-        fn ketphiroj_start(page: *const u8, page_length: usize) -> MaybeUninit<Started>;
+        fn ketphiroj_start(readonly: bool, page: *const u8, page_length: usize) -> MaybeUninit<Started>;
     }
 
     /// A record as long as these is answered in the caller's memory, whose address is handed back.
@@ -92,6 +94,7 @@ mod raw {
         _: usize,
         _: Settings,
         _: bool,
+        _: bool,
         _: *const u8,
         _: usize,
         _: *mut u8,
@@ -103,7 +106,7 @@ mod raw {
     }
 
     #[unsafe(naked)]
-    unsafe extern "C" fn start_nothing(_: *const u8, _: usize) -> MaybeUninit<Started> {
+    unsafe extern "C" fn start_nothing(_: bool, _: *const u8, _: usize) -> MaybeUninit<Started> {
         naked_asm!("mov rax, rdi", "ret")
     }
 
@@ -112,6 +115,7 @@ mod raw {
         bytes: (*mut u8, usize),
         held: [usize; 2],
         settings: Settings,
+        readonly: bool,
         quiet: bool,
         chunk: (*const u8, usize),
         room: (*mut u8, usize),
@@ -133,6 +137,7 @@ mod raw {
                 bytes: (board.second.bytes.as_mut_ptr(), board.second.bytes.len()),
                 held: [board.first.held, board.second.held],
                 settings: board.settings,
+                readonly: board.readonly,
                 quiet: given.quiet,
                 chunk: (given.chunk.as_ptr(), given.chunk.len()),
                 room: (given.room.as_mut_ptr(), given.room.len()),
@@ -142,12 +147,12 @@ mod raw {
 
         #[inline(never)]
         fn make(&self, function: PortFunction) {
-            let PortCall { bytes, held: [first, second], settings, quiet, chunk, room, page } = *self;
+            let PortCall { bytes, held: [first, second], settings, readonly, quiet, chunk, room, page } = *self;
             // SAFETY: the pointers are those of `given`, which outlives this, with their lengths, and do not overlap.
             unsafe {
                 function(
-                    PORT, bytes.0, bytes.1, first, second, settings, quiet, chunk.0, chunk.1, room.0, room.1, page.0,
-                    page.1,
+                    PORT, bytes.0, bytes.1, first, second, settings, readonly, quiet, chunk.0, chunk.1, room.0, room.1,
+                    page.0, page.1,
                 )
             };
         }
@@ -174,7 +179,7 @@ mod raw {
         #[inline(never)]
         fn make(&self, function: StartFunction) {
             // SAFETY: the pointer is that of the page given, which outlives this, with its length.
-            unsafe { function(self.page.0, self.page.1) };
+            unsafe { function(false, self.page.0, self.page.1) };
         }
     }
 }
@@ -211,7 +216,7 @@ impl Case {
         let mut second = Port::new();
         second.bytes[..self.held.len()].copy_from_slice(&self.held);
         second.held = self.held.len();
-        let board = Board { second, ..Board::start(&page).expect("a blank or sound page") };
+        let board = Board { second, ..Board::start(Profile::Full, &page).expect("a blank or sound page") };
         Given { board, quiet: self.quiet, chunk: self.chunk.clone(), room: [0; Board::REPLY], page }
     }
 

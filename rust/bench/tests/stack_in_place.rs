@@ -26,10 +26,11 @@ mod raw {
 
     // What a function answers is not looked at, and the one that does nothing answers what stands in the registers.
     type Function =
-        unsafe extern "C" fn(*mut u8, usize, *mut u8, usize, *const u8, usize) -> MaybeUninit<StartedInPlace>;
+        unsafe extern "C" fn(bool, *mut u8, usize, *mut u8, usize, *const u8, usize) -> MaybeUninit<StartedInPlace>;
 
     extern "C" {
         fn ketphiroj_start_in_place(
+            readonly: bool,
             first: *mut u8,
             first_length: usize,
             second: *mut u8,
@@ -41,6 +42,7 @@ mod raw {
 
     #[unsafe(naked)]
     unsafe extern "C" fn start_nothing(
+        _: bool,
         _: *mut u8,
         _: usize,
         _: *mut u8,
@@ -80,7 +82,7 @@ mod raw {
             let StartInPlace { first, second, page } = *self;
             // SAFETY: the pointers are those of the board and the page given, which outlive this, with their lengths,
             // and do not overlap.
-            unsafe { function(first.0, first.1, second.0, second.1, page.0, page.1) };
+            unsafe { function(false, first.0, first.1, second.0, second.1, page.0, page.1) };
         }
     }
 }
@@ -88,7 +90,8 @@ mod raw {
 #[test]
 fn own_stack_of_a_start_in_place() {
     let port = Port { bytes: [0x31; Port::ROOM], held: Port::ROOM };
-    let board = Board { first: port, second: port, settings: Settings { baud: 0, accelerometer: 0, gyroscope: 0 } };
+    let settings = Settings { baud: 0, accelerometer: 0, gyroscope: 0 };
+    let board = Board { first: port, second: port, settings, readonly: false };
     print_heading();
     let bytes = pages().map(|page| own_stack::<StartInPlace>(&(board, page), StartInPlace::LIBRARY));
     print_row("start in place", bytes);

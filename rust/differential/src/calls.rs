@@ -3,7 +3,7 @@
 use crate::wrapper::Wrapper;
 use ketphiroj::ffi::{self, FlatField, FlatPage, FlatReply, FlatValues, Started, StartedInPlace, Stepped, Written};
 use ketphiroj::Board;
-use plain::Reckoned;
+use plain::{Profile, Reckoned};
 
 /// What a feed or a silence answers, and the board afterwards.
 pub struct Fed {
@@ -51,12 +51,12 @@ pub fn silence(port: u8, mut board: Board, room: &mut [u8], page: &mut [u8]) -> 
 
 /// The library's calls. An implementation changes some of them to plant a fault.
 pub trait Calls: Wrapper {
-    fn start(&self, page: &[u8]) -> Started {
-        ffi::start(page)
+    fn start(&self, readonly: bool, page: &[u8]) -> Started {
+        ffi::start(readonly, page)
     }
 
-    fn start_in_place(&self, first: &mut [u8], second: &mut [u8], page: &[u8]) -> StartedInPlace {
-        ffi::start_in_place(first, second, page)
+    fn start_in_place(&self, readonly: bool, first: &mut [u8], second: &mut [u8], page: &[u8]) -> StartedInPlace {
+        ffi::start_in_place(readonly, first, second, page)
     }
 
     fn feed(&self, port: u8, board: Board, chunk: &[u8], room: &mut [u8], page: &mut [u8]) -> Fed {
@@ -134,6 +134,11 @@ pub trait Calls: Wrapper {
     /// The board that the reckoning's is compared with, at the end of a list.
     fn board_reckoned(&self, board: Board) -> Board {
         board
+    }
+
+    /// The profile that the plain reading of two runs is started in.
+    fn plain_profile(&self, profile: Profile) -> Profile {
+        profile
     }
 }
 

@@ -5,11 +5,13 @@ use crate::calls::{self, Calls, Fed, FieldGiven, NumberedGiven};
 use crate::folds::{refold, Before};
 use crate::lenient;
 use crate::ranging;
+use crate::rights;
 use crate::silencing;
 use crate::wrapper::Wrapper;
 use ketphiroj::ffi::{self, FlatField, FlatPage, FlatReply, FlatValues, Started, StartedInPlace, Written};
-use ketphiroj::{Board, Field, Outcome, Port, Refusal, Reply, Settings, Values, PAGE};
+use ketphiroj::{Board, Field, Outcome, Port, Profile, Refusal, Reply, Settings, Values, PAGE};
 use plain::Reckoned;
+use std::cell::Cell;
 
 /// A fault. The table in main.rs has the group of cases that is to find it.
 #[derive(Clone, Copy, Debug, PartialEq, Eq)]
@@ -206,7 +208,6 @@ pub enum Fault {
     OldRangeNumbered,
     OldRangeAppended,
     Error6Refused,
-    Error7Read,
     Reply6Refused,
     Reply7Refused,
     // Found in silences: how the scan goes on where it is undecided.
@@ -247,6 +248,59 @@ pub enum Fault {
     SilencePageAsUnsound,
     SilenceRefusalClears,
     SilenceRefusalWrites,
+    // Found on port 1 of a read-only board: functions that are let through, or are done all the same.
+    ReadonlyUse,
+    ReadonlySave,
+    ReadonlyLoad,
+    ReadonlyFactory,
+    ReadonlyUseUntold,
+    ReadonlySaveKept,
+    ReadonlySaveMarked,
+    // Where error 7 stands among the others, and what it is for.
+    Error7Before3,
+    Error7BeforeFilling,
+    Error7BeforeSums,
+    Error7Behind4,
+    Error7Behind6,
+    Error7As5,
+    Error7Whole,
+    Error7ForReport,
+    Error7ForPing,
+    Error7ForSize0,
+    Error7ForOthers,
+    Error7OnPort0,
+    Error7WhenFull,
+    // Numbered commands there.
+    ReadonlyNumberTaken,
+    ReadonlyNumberSpent,
+    ReadonlyNumberMarked,
+    ReadonlyNumberedPing,
+    ReadonlyNumberedReport,
+    Error7After5,
+    Error7AfterLength,
+    Error7AfterInnerType,
+    RowForEachInner,
+    ReadonlyEchoOfNumber,
+    ReadonlyEchoOfType,
+    ReadonlyEchoZero,
+    // The reader of its replies.
+    Error7Refused,
+    Error8Read,
+    // The profile: where it is lost, and whose it is.
+    StartIgnoresProfile,
+    RefusedStartLosesProfile,
+    StartInPlaceIgnoresProfile,
+    RefusedStartInPlaceLosesProfile,
+    WrongArrayLosesProfile,
+    FeedLosesProfile,
+    RefusedFeedLosesProfile,
+    SilenceLosesProfile,
+    ProfileIgnored,
+    SilenceIgnoresProfile,
+    ProfileOfLastStart,
+    // Found in two runs alone: what port 0 sees of port 1, and a plain reading that is started in the other profile.
+    SkippedOfOtherPort,
+    PlainIsFull,
     // Found in starts in place.
     SecondPortKept,
     LastByteKept,
@@ -284,6 +338,9 @@ pub enum Fault {
     WrappedSilenceBoard,
     WrappedStart,
     WrappedStartInPlace,
+    WrappedProfileIgnored,
+    WrappedProfileKept,
+    WrappedProfileTold,
     WrappedHeldKept,
     WrappedRefusalKept,
     WrappedMessageCheck,
@@ -305,10 +362,14 @@ pub enum Fault {
     WrappedFactoryPage,
 }
 
-/// The fault, planted.
-pub struct Planted(pub Fault);
+/// The fault, planted; and whether the board that was started last is read-only, for a fault that keeps that beside the boards.
+pub struct Planted(Fault, Cell<bool>);
 
 impl Planted {
+    pub fn new(fault: Fault) -> Planted {
+        Planted(fault, Cell::new(false))
+    }
+
     fn is(&self, fault: Fault) -> bool {
         self.0 == fault
     }
@@ -323,32 +384,36 @@ impl Planted {
 }
 
 impl Calls for Planted {
-    fn start(&self, page: &[u8]) -> Started {
-        let mut started = ffi::start(page);
+    fn start(&self, readonly: bool, page: &[u8]) -> Started {
+        self.1.set(readonly);
+        let mut started = rights::start(self.0, readonly, page);
         if self.is(Fault::StartOnThreeEntries) && started.number == 0 && page[0] == 3 {
             started.board.settings.gyroscope = 3;
         }
         // A page with a number is taken for one without settings.
         if self.is(Fault::StartOnNumber) && started.number == 0 && has_entry(page, 0x70) {
-            started.board.settings = ffi::start(&[0xFF; 64]).board.settings;
+            started.board.settings = ffi::start(false, &[0xFF; 64]).board.settings;
         }
         match (self.0, old_range(page)) {
             (Fault::StartOnOldRange, Some(7)) => started.board.settings.gyroscope = 7,
             (Fault::StartOnRange6, Some(6)) => started.board.settings.gyroscope = 6,
-            (Fault::StartOnOldPageRefused, Some(_)) => return Started { number: 20, ..ffi::start(&[0; 64]) },
+            (Fault::StartOnOldPageRefused, Some(_)) => return ffi::start(readonly, &[0; 64]),
             _ => {}
         }
         started
     }
 
-    fn start_in_place(&self, first: &mut [u8], second: &mut [u8], page: &[u8]) -> StartedInPlace {
-        let started = start_wrong_arrays(self.0, first, second, page);
-        started.unwrap_or_else(|| start_kept_board(self.0, first, second, page))
+    fn start_in_place(&self, readonly: bool, first: &mut [u8], second: &mut [u8], page: &[u8]) -> StartedInPlace {
+        let started = start_wrong_arrays(self.0, readonly, [&mut *first, &mut *second], page);
+        let mut started = started.unwrap_or_else(|| start_kept_board(self.0, readonly, [first, second], page));
+        rights::started_in_place(self.0, &mut started);
+        started
     }
 
     fn feed(&self, port: u8, board: Board, chunk: &[u8], room: &mut [u8], page: &mut [u8]) -> Fed {
         let before = Before { port, board, chunk, room: room.to_vec(), page: page.to_vec() };
         let fed = feed_run(self.0, port, board, chunk, room, page);
+        let fed = fed.or_else(|| rights::feed_in_another(self.0, self.1.get(), &before, room, page));
         if let Some(fed) = fed.or_else(|| feed_refused(self.0, &before, room, page)) {
             return fed;
         }
@@ -379,14 +444,19 @@ impl Calls for Planted {
             Fault::FeedOnOldPageRefused if fed.number < 16 && old_range(&before.page).is_some() => {
                 refuse(20, &before, &mut fed, room, page)
             }
-            _ => {}
+            _ => rights::change_answer(self.0, &before, &mut fed),
         }
         fed
     }
 
     fn silence(&self, port: u8, board: Board, room: &mut [u8], page: &mut [u8]) -> Fed {
         let before = Before { port, board, chunk: &[], room: room.to_vec(), page: page.to_vec() };
-        silencing::silence(self.0, &before, room, page)
+        let fed = rights::silence_in_another(self.0, self.1.get(), &before, room, page);
+        let mut fed = fed.unwrap_or_else(|| silencing::silence(self.0, &before, room, page));
+        if self.is(Fault::SilenceLosesProfile) && fed.number < 16 {
+            fed.board.readonly = false;
+        }
+        fed
     }
 
     fn check_message(&self, message: &[u8]) -> u8 {
@@ -542,23 +612,39 @@ impl Calls for Planted {
         }
         board
     }
+
+    fn plain_profile(&self, profile: plain::Profile) -> plain::Profile {
+        if self.is(Fault::PlainIsFull) {
+            return plain::Profile::Full;
+        }
+        profile
+    }
 }
 
 impl Wrapper for Planted {
-    fn wrapped_start(&self, page: &[u8]) -> Result<Board, Refusal> {
-        self.next_refusal(Fault::WrappedStart, Board::start(page))
+    fn wrapped_start(&self, profile: Profile, page: &[u8]) -> Result<Board, Refusal> {
+        let profile = if self.is(Fault::WrappedProfileIgnored) { Profile::Full } else { profile };
+        self.next_refusal(Fault::WrappedStart, Board::start(profile, page))
     }
 
-    fn wrapped_start_in_place(&self, board: &mut Board, page: &[u8]) -> Result<(), Refusal> {
+    fn wrapped_start_in_place(&self, board: &mut Board, profile: Profile, page: &[u8]) -> Result<(), Refusal> {
         let before = *board;
-        let started = self.next_refusal(Fault::WrappedStartInPlace, board.start_in_place(page));
+        let started = self.next_refusal(Fault::WrappedStartInPlace, board.start_in_place(profile, page));
         match (self.0, started) {
+            (Fault::WrappedProfileKept, Err(_)) => board.readonly = before.readonly,
             (Fault::WrappedHeldKept, Ok(())) => board.second.held = before.second.held,
             // As a feed that is refused leaves its board.
             (Fault::WrappedRefusalKept, Err(_)) => *board = before,
             _ => {}
         }
         started
+    }
+
+    fn wrapped_profile(&self, board: &Board) -> Profile {
+        if self.is(Fault::WrappedProfileTold) {
+            return Profile::Full;
+        }
+        board.profile()
     }
 
     fn wrapped_feed(
@@ -678,9 +764,14 @@ impl Wrapper for Planted {
 }
 
 /// What a fault answers where an array is not 260 bytes; none where both are, and for the other faults.
-fn start_wrong_arrays(fault: Fault, first: &mut [u8], second: &mut [u8], page: &[u8]) -> Option<StartedInPlace> {
-    let Started { number, board } = ffi::start(page);
-    let by_page = StartedInPlace { settings: board.settings, number };
+fn start_wrong_arrays(
+    fault: Fault,
+    readonly: bool,
+    [first, second]: [&mut [u8]; 2],
+    page: &[u8],
+) -> Option<StartedInPlace> {
+    let Started { number, board } = ffi::start(readonly, page);
+    let by_page = StartedInPlace { settings: board.settings, number, readonly };
     let (first_right, second_right) = (first.len() == Port::ROOM, second.len() == Port::ROOM);
     if first_right && second_right {
         return None;
@@ -688,7 +779,7 @@ fn start_wrong_arrays(fault: Fault, first: &mut [u8], second: &mut [u8], page: &
     match fault {
         // The 260 bytes that are needed are there.
         Fault::LongerArrayStarted if first.len() >= Port::ROOM && second.len() >= Port::ROOM => {
-            Some(ffi::start_in_place(&mut first[..Port::ROOM], &mut second[..Port::ROOM], page))
+            Some(ffi::start_in_place(readonly, &mut first[..Port::ROOM], &mut second[..Port::ROOM], page))
         }
         Fault::SecondArrayUnmeasured if first_right => {
             first.fill(0);
@@ -698,7 +789,7 @@ fn start_wrong_arrays(fault: Fault, first: &mut [u8], second: &mut [u8], page: &
         Fault::PageBeforeArrays if number != 0 => Some(by_page),
         Fault::WrongArrayCleared => {
             second.fill(0);
-            Some(ffi::start_in_place(first, second, page))
+            Some(ffi::start_in_place(readonly, first, second, page))
         }
         Fault::WrongArrayOnPage => Some(StartedInPlace { number: 17, ..by_page }),
         _ => None,
@@ -706,9 +797,9 @@ fn start_wrong_arrays(fault: Fault, first: &mut [u8], second: &mut [u8], page: &
 }
 
 /// The right answer, changed by the fault.
-fn start_kept_board(fault: Fault, first: &mut [u8], second: &mut [u8], page: &[u8]) -> StartedInPlace {
+fn start_kept_board(fault: Fault, readonly: bool, [first, second]: [&mut [u8]; 2], page: &[u8]) -> StartedInPlace {
     let (first_given, second_given) = (first.to_vec(), second.to_vec());
-    let mut started = ffi::start_in_place(first, second, page);
+    let mut started = ffi::start_in_place(readonly, first, second, page);
     match (fault, started.number) {
         (Fault::SecondPortKept, 0) => second.copy_from_slice(&second_given),
         (Fault::LastByteKept, 0) => first[Port::ROOM - 1] = first_given[Port::ROOM - 1],
@@ -721,13 +812,13 @@ fn start_kept_board(fault: Fault, first: &mut [u8], second: &mut [u8], page: &[u
             started.settings = Settings { baud: 0, accelerometer: 0, gyroscope: 0 }
         }
         (Fault::StartInPlaceOnNumber, 0) if has_entry(page, 0x70) => {
-            started.settings = ffi::start(&[0xFF; 64]).board.settings
+            started.settings = ffi::start(false, &[0xFF; 64]).board.settings
         }
         (Fault::StartInPlaceOnOldRange, 0) => {
             started.settings.gyroscope = old_range(page).unwrap_or(started.settings.gyroscope)
         }
         (Fault::StartInPlaceOnOldPageRefused, 0) if old_range(page).is_some() => {
-            started = StartedInPlace { settings: ffi::start(&[0xFF; 64]).board.settings, number: 20 }
+            started = StartedInPlace { number: 20, settings: ffi::start(false, &[0xFF; 64]).board.settings, readonly }
         }
         _ => {}
     }
@@ -812,7 +903,7 @@ fn report_type_a5(port: u8, mut board: Board, chunk: &[u8], room: &mut [u8]) -> 
     let length = usize::from(*chunk.get(3)?) + 6;
     let message = chunk.get(..length)?;
     let damaged = !plain::sums_right(message);
-    let reply = plain::handle(port, message, plain::FACTORY, plain::Values::default()).reply;
+    let reply = plain::handle(plain::Profile::Full, port, message, plain::FACTORY, plain::Values::default()).reply;
     room[..reply.len()].copy_from_slice(&reply);
     if damaged {
         let fed = if port == 0 { &mut board.first } else { &mut board.second };

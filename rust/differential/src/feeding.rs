@@ -6,6 +6,7 @@ use crate::records;
 use crate::wrapper::Wrapper;
 use ketphiroj::{Board, Refusal};
 use plain::generate::{Call, Step};
+use plain::Profile;
 
 /// A board of the library and its page, and those of the plain reading, which are the same so far.
 #[derive(Clone)]
@@ -15,11 +16,19 @@ pub struct Pair {
     pub page: Vec<u8>,
 }
 
+/// What a board is started from: the profile that it is told, and the page.
+#[derive(Clone, Copy)]
+pub struct Start<'a> {
+    pub profile: Profile,
+    pub page: &'a [u8],
+}
+
 /// Compares boards whole; a difference is told by its part, since a board is long.
 pub fn same_board(library: &Board, plain: &Board) -> Outcome {
     if library == plain {
         return Ok(());
     }
+    same("read-only", &library.readonly, &plain.readonly)?;
     same("settings", &library.settings, &plain.settings)?;
     same("held by port 0", &library.first.held, &plain.first.held)?;
     same("held by port 1", &library.second.held, &plain.second.held)?;
@@ -36,10 +45,10 @@ pub fn same_bytes(what: &str, library: &[u8], plain: &[u8]) -> Outcome {
     same(&format!("{what} from {at} on"), &library[at..end], &plain[at..end])
 }
 
-/// Starts both on a page, whether they accept it or not. Gives the number too.
-pub fn start(calls: &impl Calls, page: &[u8]) -> Result<(u8, Pair), String> {
-    let started = calls.start(page);
-    let (number, plain) = plain::start(page);
+/// Starts both, whether they accept the page or not. Gives the number too.
+pub fn start(calls: &impl Calls, Start { profile, page }: Start) -> Result<(u8, Pair), String> {
+    let started = calls.start(records::readonly(profile), page);
+    let (number, plain) = plain::start(profile, page);
     same("number of start", &started.number, &number)?;
     same_board(&started.board, &records::board(&plain))?;
     Ok((number, Pair { board: started.board, plain, page: page.to_vec() }))
@@ -58,7 +67,7 @@ impl<'a> Given<'a> {
         match *step {
             Step::Feed(Call { port, ref chunk, room }) => Some(Given::Feed { port, chunk, room }),
             Step::Silence { port, room } => Some(Given::Silence { port, room }),
-            Step::Restart => None,
+            Step::Restart(_) => None,
         }
     }
 

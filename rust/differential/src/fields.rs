@@ -2,7 +2,7 @@
 //! and one message against the separate messages of its fields.
 
 use crate::calls::Calls;
-use crate::feeding::{Given, Pair};
+use crate::feeding::{Given, Pair, Start};
 use crate::group::{same, Outcome, Ran};
 use crate::lists::{hex, run_or_shrink, Beside};
 use crate::runs::cut_at_every_place;
@@ -111,7 +111,7 @@ pub fn cut(calls: &impl Calls, rng: &mut Rng, ran: &mut Ran) -> Outcome {
     });
     let short = streams.iter().all(|stream| stream.len() <= 40);
     let beside = if short { Beside::Reckoning } else { Beside::Nothing };
-    cut_at_every_place(calls, &page, &streams, beside, ran)
+    cut_at_every_place(calls, Start { profile: generate::profile(rng), page: &page }, &streams, beside, ran)
 }
 
 /// Lists of messages of several fields, with restarts; some beside the reckoning or the wrapper.
@@ -124,7 +124,7 @@ pub fn lists(calls: &impl Calls, rng: &mut Rng, ran: &mut Ran) -> Outcome {
         _ => (Beside::Nothing, 8),
     };
     let list = fields::steps_with_fields(rng, &page, pieces);
-    run_or_shrink(calls, &page, &list, beside, ran)
+    run_or_shrink(calls, Start { profile: generate::profile(rng), page: &page }, &list, beside, ran)
 }
 
 /// What a feed of one good message leaves, and the payload of its reply.

@@ -6,8 +6,9 @@ use crate::faults::Fault;
 use crate::numbering;
 use crate::ranging;
 use crate::records;
+use crate::rights;
 use ketphiroj::{Board, Settings};
-use plain::{Handled, Row, Values};
+use plain::{Handled, Profile, Row, Values};
 
 /// What a feed was given.
 pub struct Before<'a> {
@@ -18,10 +19,11 @@ pub struct Before<'a> {
     pub page: Vec<u8>,
 }
 
-/// The message that a feed reported, the port that it came on, what it was handled on, and how many of its bytes were
-/// held before.
+/// The message that a feed reported, the board's profile and the port that it came on, what it was handled on, and how many
+/// of its bytes were held before.
 pub struct Reported {
     pub message: Vec<u8>,
+    pub profile: Profile,
     pub port: u8,
     pub held: usize,
     pub settings: plain::Settings,
@@ -43,13 +45,15 @@ impl Before<'_> {
         let good = whole(fed.skipped).filter(|message| plain::check_message(message) == 0);
         let place = if good.is_some() { fed.skipped } else { fed.skipped.checked_sub(1)? };
         let Settings { baud, accelerometer, gyroscope } = self.board.settings;
+        let profile = if self.board.readonly { Profile::ReadOnly } else { Profile::Full };
         Some(Reported {
             message: whole(place)?.to_vec(),
+            profile,
             port: self.port,
             held: port.held.saturating_sub(place),
             settings: plain::Settings { baud, accelerometer, gyroscope },
             values: plain::values(&self.page)?,
-            just_started: records::board(&plain::start(&self.page).1) == self.board,
+            just_started: records::board(&plain::start(profile, &self.page).1) == self.board,
         })
     }
 }
@@ -58,7 +62,7 @@ impl Before<'_> {
 pub fn refold(fault: Fault, before: &Before, fed: &mut Fed, room: &mut [u8], page: &mut [u8]) {
     let wrong = |reported: Reported| {
         let handled = reported.wrong(fault).or_else(|| numbering::wrong(fault, &reported));
-        handled.or_else(|| ranging::wrong(fault, &reported))
+        handled.or_else(|| ranging::wrong(fault, &reported)).or_else(|| rights::wrong(fault, &reported))
     };
     let handled = before.reported(fed).and_then(wrong);
     let Some(handled) = handled.filter(|handled| handled.reply.len() <= room.len()) else {
@@ -74,8 +78,13 @@ pub fn refold(fault: Fault, before: &Before, fed: &mut Fed, room: &mut [u8], pag
 
 impl Reported {
     #[cfg(test)]
-    pub fn new(message: Vec<u8>, port: u8, settings: plain::Settings, values: Values) -> Reported {
-        Reported { message, port, held: 0, settings, values, just_started: false }
+    pub fn new(profile: Profile, port: u8, message: Vec<u8>, settings: plain::Settings, values: Values) -> Reported {
+        Reported { message, profile, port, held: 0, settings, values, just_started: false }
+    }
+
+    /// Whether it came on a port that may use Ping and function 2 only.
+    pub fn restricted(&self) -> bool {
+        self.profile.restricts(self.port)
     }
 
     pub fn kind(&self) -> u8 {
@@ -94,7 +103,7 @@ impl Reported {
 
     /// A separate message with this field alone.
     fn separate(&self, field: &[u8], settings: plain::Settings, values: Values) -> Handled {
-        plain::handle(self.port, &plain::message(self.kind(), field), settings, values)
+        plain::handle(self.profile, self.port, &plain::message(self.kind(), field), settings, values)
     }
 
     /// The fields one after the other, each on what `on` says of those before it.
@@ -243,9 +252,9 @@ fn right_without_a_fault() {
         let count = rng.between(1, 16);
         let message = plain::message(kind, &fields::row(&mut rng, kind, count));
         let (settings, values) = (generate::usable_settings(&mut rng), numbered::values(&mut rng));
-        let port = rng.below(2) as u8;
-        let expected = plain::handle(port, &message, settings, values);
-        let reported = Reported::new(message, port, settings, values);
+        let (profile, port) = (generate::profile(&mut rng), rng.below(2) as u8);
+        let expected = plain::handle(profile, port, &message, settings, values);
+        let reported = Reported::new(profile, port, message, settings, values);
         let right = reported.right(&reported.fields().expect("filled"));
         assert_eq!(Handled { reply: plain::reply_of(kind, &right.rows), ..right }, expected);
     }

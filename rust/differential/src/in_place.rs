@@ -1,7 +1,7 @@
 //! Starts in place, of boards and arrays of any contents, on pages of all kinds.
 
 use crate::calls::Calls;
-use crate::feeding::{same_board, same_bytes};
+use crate::feeding::{same_board, same_bytes, Start};
 use crate::group::{same, Outcome, Ran};
 use crate::lists::hex;
 use crate::pages::done_or;
@@ -11,38 +11,46 @@ use ketphiroj::{Port, Refusal};
 use plain::generate::{self, numbered, Rng};
 
 /// A start of two arrays of any contents and lengths, on a page of any contents and length.
-fn start(calls: &impl Calls, given: [Vec<u8>; 2], page: &[u8], ran: &mut Ran) -> Outcome {
+pub fn start(calls: &impl Calls, given: [Vec<u8>; 2], Start { profile, page }: Start, ran: &mut Ran) -> Outcome {
     let [mut plain_first, mut plain_second] = given.clone();
     let [mut first, mut second] = given;
     let page_given = page.to_vec();
-    let started = calls.start_in_place(&mut first, &mut second, page);
-    let plain = plain::start_in_place(&mut plain_first, &mut plain_second, &page_given);
-    ran.count(plain.0);
+    let started = calls.start_in_place(records::readonly(profile), &mut first, &mut second, page);
+    let plain = plain::start_in_place(profile, &mut plain_first, &mut plain_second, &page_given);
+    ran.count(plain.number);
     same("start in place", &started, &records::started_in_place(plain))
         .and_then(|()| same_bytes("bytes of port 0", &first, &plain_first))
         .and_then(|()| same_bytes("bytes of port 1", &second, &plain_second))
         .and_then(|()| same("page", page, &page_given))
         .map_err(|text| {
-            format!("{text}\n  arrays of {} and {} bytes, page {}", first.len(), second.len(), hex(&page_given))
+            let (first, second) = (first.len(), second.len());
+            format!("{text}\n  {profile:?}, arrays of {first} and {second} bytes, page {}", hex(&page_given))
         })
 }
 
 /// The wrapper's start of a board of any contents: the board of a start by value, also where the page is refused.
-fn start_wrapped(calls: &impl Calls, board: &plain::Board, page: &[u8]) -> Outcome {
+fn start_wrapped(calls: &impl Calls, board: &plain::Board, Start { profile, page }: Start) -> Outcome {
     let mut started = records::board(board);
-    let answer = calls.wrapped_start_in_place(&mut started, page).map_err(Refusal::number);
-    let (number, plain) = plain::start(page);
+    let asked = records::profile(profile);
+    let answer = calls.wrapped_start_in_place(&mut started, asked, page).map_err(Refusal::number);
+    let (number, plain) = plain::start(profile, page);
     same("wrapped start in place", &answer, &done_or(number, ()))
         .and_then(|()| same_board(&started, &records::board(&plain)))
-        .map_err(|text| format!("wrapped: {text}\n  page {}", hex(page)))
+        .and_then(|()| same("profile", &calls.wrapped_profile(&started), &asked))
+        .map_err(|text| format!("wrapped: {text}\n  {profile:?}, page {}", hex(page)))
 }
 
-/// Both, of a board of any contents.
+/// Both, of a board of any contents, in any profile.
 pub fn start_any_board(calls: &impl Calls, rng: &mut Rng, page: &[u8], ran: &mut Ran) -> Outcome {
-    let board = generate::board(rng);
+    let profile = generate::profile(rng);
+    start_board(calls, &generate::board(rng), Start { profile, page }, ran)
+}
+
+/// Both, of this board, whatever it was.
+pub fn start_board(calls: &impl Calls, board: &plain::Board, given: Start, ran: &mut Ran) -> Outcome {
     let arrays = [board.ports[0].bytes.to_vec(), board.ports[1].bytes.to_vec()];
-    start(calls, arrays, page, ran)?;
-    start_wrapped(calls, &board, page)
+    start(calls, arrays, given, ran)?;
+    start_wrapped(calls, board, given)
 }
 
 /// An array that is a port's, or one that is nearly as long, or of any length.
@@ -80,7 +88,7 @@ fn any_pages(calls: &impl Calls, rng: &mut Rng, ran: &mut Ran) -> Outcome {
     for _ in 0..100_000 {
         let page = page(rng);
         start_any_board(calls, rng, &page, ran)?;
-        start(calls, [array(rng), array(rng)], &page, ran)?;
+        start(calls, [array(rng), array(rng)], Start { profile: generate::profile(rng), page: &page }, ran)?;
     }
     Ok(())
 }
@@ -90,8 +98,9 @@ fn lengths(calls: &impl Calls, rng: &mut Rng, ran: &mut Ran) -> Outcome {
     for length in 0..3 * Port::ROOM {
         start_any_board(calls, rng, &vec![0xFF; length], ran)?;
         let page = page(rng);
-        start(calls, [rng.bytes(length), rng.bytes(Port::ROOM)], &page, ran)?;
-        start(calls, [rng.bytes(Port::ROOM), rng.bytes(length)], &page, ran)?;
+        let given = Start { profile: generate::profile(rng), page: &page };
+        start(calls, [rng.bytes(length), rng.bytes(Port::ROOM)], given, ran)?;
+        start(calls, [rng.bytes(Port::ROOM), rng.bytes(length)], given, ran)?;
     }
     Ok(())
 }

@@ -37,7 +37,7 @@ pub fn read(fault: Fault, message: &[u8], row: usize) -> Option<FlatReply> {
     })
 }
 
-const OF_ROWS: [Fault; 22] = [
+const OF_ROWS: [Fault; 23] = [
     Fault::NoRowAsLast,
     Fault::NoRowAs23,
     Fault::RowsFromOne,
@@ -54,7 +54,8 @@ const OF_ROWS: [Fault; 22] = [
     Fault::RowOfSize3,
     Fault::Error5Refused,
     Fault::Error6Refused,
-    Fault::Error7Read,
+    Fault::Error7Refused,
+    Fault::Error8Read,
     Fault::Reply6Refused,
     Fault::Reply7Refused,
     Fault::OneRowInNumbered,
@@ -91,8 +92,9 @@ fn read_fields(fault: Fault, kind: u8, fields: &[Part]) -> Option<Vec<Row>> {
     let read = |error: u8| match error {
         5 => fault != Fault::Error5Refused,
         6 => fault != Fault::Error6Refused,
-        7 => fault == Fault::Error7Read,
-        _ => error < 7,
+        7 => fault != Fault::Error7Refused,
+        8 => fault == Fault::Error8Read,
+        _ => error < 8,
     };
     for field in fields {
         match *field.data {

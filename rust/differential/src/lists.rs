@@ -1,11 +1,13 @@
 //! Lists of feeds, silences and restarts from a start on a blank or sound page.
 
 use crate::calls::Calls;
-use crate::feeding::{self, Given, Pair};
+use crate::feeding::{self, Given, Pair, Start};
 use crate::group::{same, Outcome, Ran};
+use crate::records;
 use ketphiroj::Board;
-use plain::generate::{self, Call, Rng, Step};
-use plain::{Draining, Reckoned, Reckoning};
+use plain::generate::{self, Call, Rng, Shrinkable, Step};
+use plain::{Draining, Profile, Reckoned, Reckoning};
+use std::fmt::Display;
 
 /// What a list is compared with, beyond the plain feed and the plain silence.
 #[derive(Clone, Copy, PartialEq, Eq)]
@@ -18,12 +20,12 @@ pub enum Beside {
 }
 
 /// Runs a list: every answer, room, board and page is compared after every call.
-pub fn run(calls: &impl Calls, page: &[u8], list: &[Step], beside: Beside, ran: &mut Ran) -> Outcome {
-    let mut running = Running::new(calls, beside, page)?;
+pub fn run(calls: &impl Calls, start: Start, list: &[Step], beside: Beside, ran: &mut Ran) -> Outcome {
+    let mut running = Running::new(calls, beside, start)?;
     for (place, step) in list.iter().enumerate() {
-        if *step == Step::Restart {
+        if let Step::Restart(profile) = *step {
             running.end()?;
-            running = Running::new(calls, beside, &running.pair.page)?;
+            running = Running::new(calls, beside, Start { profile, page: &running.pair.page })?;
             continue;
         }
         ran.count(running.call(step).map_err(|text| format!("step {place}: {text}"))?);
@@ -41,16 +43,16 @@ struct Running<'a, C> {
     draining: Draining,
 }
 
-fn started(calls: &impl Calls, page: &[u8]) -> Result<Pair, String> {
-    let (number, pair) = feeding::start(calls, page)?;
+fn started(calls: &impl Calls, start: Start) -> Result<Pair, String> {
+    let (number, pair) = feeding::start(calls, start)?;
     same("number of start", &number, &0)?;
     Ok(pair)
 }
 
 impl<C: Calls> Running<'_, C> {
-    fn new<'a>(calls: &'a C, beside: Beside, page: &[u8]) -> Result<Running<'a, C>, String> {
-        let pair = started(calls, page)?;
-        let reckoning = (beside == Beside::Reckoning).then(|| Reckoning::new(page));
+    fn new<'a>(calls: &'a C, beside: Beside, start: Start) -> Result<Running<'a, C>, String> {
+        let pair = started(calls, start)?;
+        let reckoning = (beside == Beside::Reckoning).then(|| Reckoning::new(start.profile, start.page));
         Ok(Running { calls, beside, pair, reckoning, draining: Draining::default() })
     }
 
@@ -99,8 +101,9 @@ pub fn reply_in(number: u8, room: &[u8]) -> &[u8] {
     }
 }
 
-/// Settings, held bytes and page as reckoned; past the held bytes a port is zero.
+/// Profile, settings, held bytes and page as reckoned; past the held bytes a port is zero.
 pub fn reckoned_state(reckoning: &Reckoning, board: &Board, page: &[u8]) -> Outcome {
+    same("reckoned profile", &board.readonly, &records::readonly(reckoning.profile()))?;
     let settings = reckoning.settings();
     same("reckoned baud", &board.settings.baud, &settings.baud)?;
     same("reckoned accelerometer", &board.settings.accelerometer, &settings.accelerometer)?;
@@ -116,35 +119,32 @@ pub fn reckoned_state(reckoning: &Reckoning, board: &Board, page: &[u8]) -> Outc
 }
 
 /// Runs a list; of a difference, the shortest list that shows one.
-pub fn run_or_shrink(calls: &impl Calls, page: &[u8], list: &[Step], beside: Beside, ran: &mut Ran) -> Outcome {
-    or_shrink(page, list, ran, |list, ran| run(calls, page, list, beside, ran))
+pub fn run_or_shrink(calls: &impl Calls, start: Start, list: &[Step], beside: Beside, ran: &mut Ran) -> Outcome {
+    or_shrink(start, list, ran, |list, ran| run(calls, start, list, beside, ran))
 }
 
-/// Runs a list from this page as told; of a difference, the shortest list that shows one.
-pub fn or_shrink(page: &[u8], list: &[Step], ran: &mut Ran, run: impl Fn(&[Step], &mut Ran) -> Outcome) -> Outcome {
+/// Runs a list from this start as told; of a difference, the shortest list that shows one.
+pub fn or_shrink<T: Shrinkable + Display>(
+    start: Start,
+    list: &[T],
+    ran: &mut Ran,
+    run: impl Fn(&[T], &mut Ran) -> Outcome,
+) -> Outcome {
     let Err(text) = run(list, ran) else {
         return Ok(());
     };
-    let again = |list: &[Step]| run(list, &mut Ran::default());
+    let again = |list: &[T]| run(list, &mut Ran::default());
     let short = generate::shrink(list, |list| again(list).is_err());
     let why = again(&short).expect_err("a shrunk list still fails");
-    Err(format!("{text}\n{}\n  {why}", shown(page, &short)))
+    Err(format!("{text}\n{}\n  {why}", shown(start, short)))
 }
 
-/// A list as text: the page, then a line for each step.
-fn shown(page: &[u8], list: &[Step]) -> String {
-    let bytes: usize = list.iter().map(|step| step.chunk().len()).sum();
-    let mut text = format!("  shortest: {} steps with {bytes} bytes, from the page {}", list.len(), hex(page));
-    for step in list {
-        match step {
-            Step::Restart => text += "\n    restart",
-            Step::Silence { port, room } => text += &format!("\n    silence of port {port}, room {room}"),
-            Step::Feed(call) => {
-                text += &format!("\n    feed port {}, room {}, chunk {}", call.port, call.room, hex(&call.chunk))
-            }
-        }
-    }
-    text
+/// A list as text: profile and page, then a line for each step.
+fn shown<T: Shrinkable + Display>(Start { profile, page }: Start, mut list: Vec<T>) -> String {
+    let bytes: usize = list.iter_mut().filter_map(Shrinkable::bytes).map(|bytes| bytes.len()).sum();
+    let count = list.len();
+    let steps: String = list.iter().map(|step| format!("\n    {step}")).collect();
+    format!("  shortest: {count} steps with {bytes} bytes, {profile:?}, from the page {}{steps}", hex(page))
 }
 
 pub fn hex(bytes: &[u8]) -> String {
@@ -163,7 +163,7 @@ pub fn any(calls: &impl Calls, rng: &mut Rng, beside: Beside, ran: &mut Ran) -> 
         _ => rng.between(1, 16),
     };
     let list = generate::steps(rng, &page, pieces);
-    run_or_shrink(calls, &page, &list, beside, ran)
+    run_or_shrink(calls, Start { profile: generate::profile(rng), page: &page }, &list, beside, ran)
 }
 
 /// Lists of the streams in which a scan can go wrong: messages within messages, runs of A5, false headers, the longest
@@ -172,7 +172,7 @@ pub fn hard(calls: &impl Calls, rng: &mut Rng, ran: &mut Ran) -> Outcome {
     let page = generate::sound_page(rng);
     let stream: Vec<u8> = (0..rng.between(1, 8)).flat_map(|_| hard_piece(rng)).collect();
     let list = cut_for_one_port(rng, &stream);
-    run_or_shrink(calls, &page, &list, Beside::Nothing, ran)
+    run_or_shrink(calls, Start { profile: generate::profile(rng), page: &page }, &list, Beside::Nothing, ran)
 }
 
 fn hard_piece(rng: &mut Rng) -> Vec<u8> {
@@ -210,10 +210,11 @@ fn full_of_headers(rng: &mut Rng) -> Vec<u8> {
     message
 }
 
-/// Feeds a stream to one port and offers again what was not taken, so that nothing of it is lost.
+/// Feeds a stream to one port and offers again what was not taken, so that nothing of it is lost. What is taken is the same in
+/// either profile.
 fn cut_for_one_port(rng: &mut Rng, stream: &[u8]) -> Vec<Step> {
     let mut page = vec![0xFF; 64];
-    let (_, mut board) = plain::start(&page);
+    let (_, mut board) = plain::start(Profile::Full, &page);
     let port = rng.below(2) as u8;
     let mut rest = stream;
     let mut list = Vec::new();
@@ -234,7 +235,7 @@ fn cut_for_one_port(rng: &mut Rng, stream: &[u8]) -> Vec<Step> {
 pub fn long(calls: &impl Calls, rng: &mut Rng, ran: &mut Ran) -> Outcome {
     let page = generate::sound_page(rng);
     let stream: Vec<u8> = (0..6000).flat_map(|_| generate::piece(rng)).collect();
-    let mut pair = started(calls, &page)?;
+    let mut pair = started(calls, Start { profile: generate::profile(rng), page: &page })?;
     let mut at = 0;
     loop {
         let given = Given::Feed { port: 0, chunk: &stream[at..], room: Board::REPLY };

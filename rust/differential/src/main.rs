@@ -20,7 +20,9 @@ mod numbering;
 mod pages;
 mod ranges;
 mod ranging;
+mod readonly;
 mod records;
+mod rights;
 mod rows;
 mod runs;
 mod silences;
@@ -80,9 +82,13 @@ enum Group {
     GrowingSilences,
     FalseHeaders,
     SilentBoards,
+    ReadonlyCommands,
+    HostileLists,
+    TwoRuns,
+    ProfileStarts,
 }
 
-const GROUPS: [Group; 41] = [
+const GROUPS: [Group; 45] = [
     Group::Lists,
     Group::HardLists,
     Group::ReckonedLists,
@@ -124,6 +130,10 @@ const GROUPS: [Group; 41] = [
     Group::GrowingSilences,
     Group::FalseHeaders,
     Group::SilentBoards,
+    Group::ReadonlyCommands,
+    Group::HostileLists,
+    Group::TwoRuns,
+    Group::ProfileStarts,
 ];
 
 impl Group {
@@ -153,6 +163,9 @@ impl Group {
             Group::SilenceLaws => 60_000,
             Group::GrowingSilences => 40_000,
             Group::SilentBoards => 600_000,
+            Group::HostileLists => 80_000,
+            Group::TwoRuns => 40_000,
+            Group::ProfileStarts => 40_000,
             _ => 1,
         }
     }
@@ -165,6 +178,10 @@ impl Group {
             Group::DrainedSilences | Group::AnySilences | Group::SilenceLaws | Group::GrowingSilences => {
                 &[0, 1, 16, 18]
             }
+            Group::HostileLists => &[0, 1, 16, 18],
+            Group::TwoRuns => &[0, 1, 18],
+            Group::ReadonlyCommands => &[0],
+            Group::ProfileStarts => &[0, 1, 16, 17, 18, 19, 20],
             Group::FalseHeaders => &[0, 1],
             Group::Ranges => &[0, 17],
             Group::HardLists | Group::LongStreams | Group::CutFields | Group::CutNumbered => &[0, 1],
@@ -233,6 +250,16 @@ impl Group {
             Group::GrowingSilences => silences::grow(calls, rng, ran),
             Group::FalseHeaders => silences::false_headers(calls, rng, ran),
             Group::SilentBoards => silences::boards(calls, rng, ran),
+            _ => self.case_of_profiles(calls, rng, ran),
+        }
+    }
+
+    fn case_of_profiles(self, calls: &impl Calls, rng: &mut Rng, ran: &mut Ran) -> Outcome {
+        match self {
+            Group::ReadonlyCommands => readonly::commands(calls, rng, ran),
+            Group::HostileLists => readonly::lists(calls, rng, ran),
+            Group::TwoRuns => readonly::two_runs(calls, rng, ran),
+            Group::ProfileStarts => readonly::starts(calls, rng, ran),
             _ => Err(format!("{self:?} has no cases")),
         }
     }
@@ -248,7 +275,7 @@ impl Group {
 }
 
 /// Each planted fault, and the group that is to find it.
-const FAULTS: [(Fault, Group); 262] = [
+const FAULTS: [(Fault, Group); 326] = [
     (Fault::ReplyOfError4, Group::Lists),
     (Fault::RoomPastTheReply, Group::Lists),
     (Fault::SkippedOfHeldMessage, Group::Lists),
@@ -471,7 +498,6 @@ const FAULTS: [(Fault, Group); 262] = [
     (Fault::OldRangeNumbered, Group::WrittenNumbered),
     (Fault::OldRangeAppended, Group::AppendedFields),
     (Fault::Error6Refused, Group::Replies),
-    (Fault::Error7Read, Group::Replies),
     (Fault::Reply6Refused, Group::Replies),
     (Fault::Reply7Refused, Group::ReplyRows),
     (Fault::SilenceAsEmptyFeed, Group::DrainedSilences),
@@ -511,6 +537,71 @@ const FAULTS: [(Fault, Group); 262] = [
     (Fault::WrappedSilence, Group::SilentBoards),
     (Fault::WrappedSilenceMark, Group::AnySilences),
     (Fault::WrappedSilenceBoard, Group::AnySilences),
+    (Fault::ReadonlyUse, Group::ReadonlyCommands),
+    (Fault::ReadonlyUse, Group::TwoRuns),
+    (Fault::ReadonlySave, Group::HostileLists),
+    (Fault::ReadonlySave, Group::TwoRuns),
+    (Fault::ReadonlyLoad, Group::ReadonlyCommands),
+    (Fault::ReadonlyLoad, Group::TwoRuns),
+    (Fault::ReadonlyFactory, Group::ReadonlyCommands),
+    (Fault::ReadonlyFactory, Group::TwoRuns),
+    (Fault::ReadonlyUseUntold, Group::TwoRuns),
+    (Fault::ReadonlySaveKept, Group::TwoRuns),
+    (Fault::ReadonlySaveKept, Group::ReadonlyCommands),
+    (Fault::ReadonlySaveMarked, Group::HostileLists),
+    (Fault::Error7Before3, Group::ReadonlyCommands),
+    (Fault::Error7BeforeFilling, Group::ReadonlyCommands),
+    (Fault::Error7BeforeSums, Group::ReadonlyCommands),
+    (Fault::Error7Behind4, Group::ReadonlyCommands),
+    (Fault::Error7Behind6, Group::ReadonlyCommands),
+    (Fault::Error7As5, Group::HostileLists),
+    (Fault::Error7Whole, Group::HostileLists),
+    (Fault::Error7ForReport, Group::ReadonlyCommands),
+    (Fault::Error7ForPing, Group::HostileLists),
+    (Fault::Error7ForSize0, Group::ReadonlyCommands),
+    (Fault::Error7ForOthers, Group::ReadonlyCommands),
+    (Fault::Error7OnPort0, Group::ReadonlyCommands),
+    (Fault::Error7OnPort0, Group::TwoRuns),
+    (Fault::Error7WhenFull, Group::ReadonlyCommands),
+    (Fault::Error7WhenFull, Group::Lists),
+    (Fault::ReadonlyNumberTaken, Group::ReadonlyCommands),
+    (Fault::ReadonlyNumberSpent, Group::ReadonlyCommands),
+    (Fault::ReadonlyNumberSpent, Group::TwoRuns),
+    (Fault::ReadonlyNumberMarked, Group::HostileLists),
+    (Fault::ReadonlyNumberedPing, Group::ReadonlyCommands),
+    (Fault::ReadonlyNumberedPing, Group::TwoRuns),
+    (Fault::ReadonlyNumberedReport, Group::HostileLists),
+    (Fault::Error7After5, Group::ReadonlyCommands),
+    (Fault::Error7AfterLength, Group::ReadonlyCommands),
+    (Fault::Error7AfterInnerType, Group::ReadonlyCommands),
+    (Fault::RowForEachInner, Group::ReadonlyCommands),
+    (Fault::ReadonlyEchoOfNumber, Group::ReadonlyCommands),
+    (Fault::ReadonlyEchoOfType, Group::ReadonlyCommands),
+    (Fault::ReadonlyEchoZero, Group::HostileLists),
+    (Fault::Error7Refused, Group::Replies),
+    (Fault::Error7Refused, Group::NumberedReplies),
+    (Fault::Error8Read, Group::Replies),
+    (Fault::StartIgnoresProfile, Group::ProfileStarts),
+    (Fault::StartIgnoresProfile, Group::Lists),
+    (Fault::RefusedStartLosesProfile, Group::ProfileStarts),
+    (Fault::StartInPlaceIgnoresProfile, Group::StartsInPlace),
+    (Fault::StartInPlaceIgnoresProfile, Group::ProfileStarts),
+    (Fault::RefusedStartInPlaceLosesProfile, Group::ProfileStarts),
+    (Fault::WrongArrayLosesProfile, Group::ProfileStarts),
+    (Fault::FeedLosesProfile, Group::HostileLists),
+    (Fault::FeedLosesProfile, Group::Boards),
+    (Fault::RefusedFeedLosesProfile, Group::HostileLists),
+    (Fault::SilenceLosesProfile, Group::DrainedSilences),
+    (Fault::SilenceLosesProfile, Group::SilentBoards),
+    (Fault::ProfileIgnored, Group::ReadonlyCommands),
+    (Fault::ProfileIgnored, Group::Lists),
+    (Fault::SilenceIgnoresProfile, Group::HostileLists),
+    (Fault::ProfileOfLastStart, Group::ProfileStarts),
+    (Fault::SkippedOfOtherPort, Group::TwoRuns),
+    (Fault::PlainIsFull, Group::TwoRuns),
+    (Fault::WrappedProfileIgnored, Group::ProfileStarts),
+    (Fault::WrappedProfileKept, Group::ProfileStarts),
+    (Fault::WrappedProfileTold, Group::StartsInPlace),
 ];
 
 /// The checks that passed and failed.
@@ -561,7 +652,7 @@ fn compare(group: Group, seed: u64, scale: u64, tally: &mut Tally) {
 
 /// Runs the group that is to find a fault with the fault in it.
 fn plant(fault: Fault, group: Group, seed: u64, tally: &mut Tally) {
-    let found = group.run(&Planted(fault), seed, group.cases(), &mut Ran::default());
+    let found = group.run(&Planted::new(fault), seed, group.cases(), &mut Ran::default());
     tally.check(found.is_err());
     match found {
         Ok(()) => println!("FAILED: the planted fault {fault:?} was not found in {group:?}"),

@@ -2,7 +2,7 @@
 //! of feeds and restarts over one page, and the promise of the request on the library alone.
 
 use crate::calls::{Calls, NumberedGiven};
-use crate::feeding::Given;
+use crate::feeding::{Given, Start};
 use crate::fields::{some_fields, some_pings};
 use crate::group::{same, Outcome, Ran};
 use crate::lists::{hex, run_or_shrink, Beside};
@@ -14,7 +14,7 @@ use crate::singles::{holding_nothing, one};
 use ketphiroj::Board;
 use plain::generate::numbered::{self, numbered};
 use plain::generate::{self, fields, Rng, Step};
-use plain::Values;
+use plain::{Profile, Values};
 
 /// One message, fed whole to each port of a board that holds nothing, on a page that keeps this number.
 fn feed(calls: &impl Calls, rng: &mut Rng, last_number: Option<u32>, message: &[u8], ran: &mut Ran) -> Outcome {
@@ -141,8 +141,9 @@ pub fn histories(calls: &impl Calls, rng: &mut Rng, ran: &mut Ran) -> Outcome {
         _ => (Beside::Nothing, 10),
     };
     let pieces = rng.between(1, pieces);
-    let list = numbered::history(rng, &page, pieces);
-    run_or_shrink(calls, &page, &list, beside, ran)
+    let start = Start { profile: generate::profile(rng), page: &page };
+    let list = numbered::history(rng, start.profile, &page, pieces);
+    run_or_shrink(calls, start, &list, beside, ran)
 }
 
 /// Two streams of a numbered command and another piece, cut at every place. Short ones are compared with the reckoning
@@ -159,7 +160,7 @@ pub fn cut(calls: &impl Calls, rng: &mut Rng, ran: &mut Ran) -> Outcome {
     });
     let short = streams.iter().all(|stream| stream.len() <= 40);
     let beside = if short { Beside::Reckoning } else { Beside::Nothing };
-    cut_at_every_place(calls, &page, &streams, beside, ran)
+    cut_at_every_place(calls, Start { profile: generate::profile(rng), page: &page }, &streams, beside, ran)
 }
 
 /// A board of the library and its page, without the plain reading beside it.
@@ -170,12 +171,12 @@ pub struct Alone<'a, C> {
 }
 
 impl<C: Calls> Alone<'_, C> {
-    pub fn start<'a>(calls: &'a C, page: &[u8]) -> Alone<'a, C> {
-        Alone { calls, board: calls.start(page).board, page: page.to_vec() }
+    pub fn start<'a>(calls: &'a C, Start { profile, page }: Start) -> Alone<'a, C> {
+        Alone { calls, board: calls.start(records::readonly(profile), page).board, page: page.to_vec() }
     }
 
-    pub fn restart(&mut self) -> Outcome {
-        let started = self.calls.start(&self.page);
+    pub fn restart(&mut self, profile: Profile) -> Outcome {
+        let started = self.calls.start(records::readonly(profile), &self.page);
         same("number of a restart", &started.number, &0)?;
         self.board = started.board;
         Ok(())
@@ -193,30 +194,33 @@ impl<C: Calls> Alone<'_, C> {
 }
 
 /// The request's own purpose, of the library alone: a day of numbered commands, whatever stands in them, on both ports, with
-/// restarts; then each of them is sent again, in any order, on either port and behind any number of restarts. Each is
-/// refused with 5, and page and settings are as a restart leaves them.
+/// restarts in either profile; then each of them is sent again, in any order, on either port and behind any number of restarts.
+/// Each is refused with 5, or on port 1 of a read-only board with 7, and page and settings are as a restart leaves them.
 pub fn replays(calls: &impl Calls, rng: &mut Rng, ran: &mut Ran) -> Outcome {
     let page = if rng.chance(1, 2) { vec![0xFF; 64] } else { numbered::sound_page(rng).to_vec() };
-    let mut alone = Alone::start(calls, &page);
+    let mut alone = Alone::start(calls, Start { profile: generate::profile(rng), page: &page });
     let day = day(rng, plain::values(&alone.page).and_then(|values| values.last_number));
     let told = |text: String| {
         format!("{text}\n  of the commands {}", day.iter().map(|one| hex(one)).collect::<Vec<_>>().join(" "))
     };
     for message in &day {
-        let error = alone.error(rng.below(2) as u8, message, ran).map_err(told)?;
+        // Port 1 of a read-only board takes no numbered command.
+        let port = if alone.board.readonly { 0 } else { rng.below(2) as u8 };
+        let error = alone.error(port, message, ran).map_err(told)?;
         same("a fresh number is refused", &(error == 5), &false).map_err(told)?;
         if rng.chance(1, 8) {
-            alone.restart()?;
+            alone.restart(generate::profile(rng))?;
         }
     }
-    alone.restart()?;
+    alone.restart(generate::profile(rng))?;
     let (settings, page) = (alone.board.settings, alone.page.clone());
     for _ in 0..2 * day.len() {
         if rng.chance(1, 4) {
-            alone.restart()?;
+            alone.restart(generate::profile(rng))?;
         }
-        let message = &day[rng.below(day.len())];
-        same("error of a replay", &alone.error(rng.below(2) as u8, message, ran)?, &5).map_err(told)?;
+        let (message, port) = (&day[rng.below(day.len())], rng.below(2) as u8);
+        let refused = if alone.board.readonly && port == 1 { 7 } else { 5 };
+        same("error of a replay", &alone.error(port, message, ran)?, &refused).map_err(told)?;
         same("page after a replay", &alone.page, &page).map_err(told)?;
         same("settings after a replay", &alone.board.settings, &settings).map_err(told)?;
     }
@@ -240,25 +244,28 @@ fn day(rng: &mut Rng, last: Option<u32>) -> Vec<Vec<u8>> {
 pub fn grow(calls: &impl Calls, rng: &mut Rng, ran: &mut Ran) -> Outcome {
     let page = numbered::sound_page(rng);
     let pieces = rng.between(2, 12);
-    let list = numbered::history(rng, &page, pieces);
-    growing(calls, &page, &list, ran)
+    let start = Start { profile: generate::profile(rng), page: &page };
+    let list = numbered::history(rng, start.profile, &page, pieces);
+    growing(calls, start, &list, ran)
 }
 
 /// The numbers that the library accepts over this list grow.
-pub fn growing(calls: &impl Calls, page: &[u8], list: &[Step], ran: &mut Ran) -> Outcome {
-    let mut last = plain::values(page).and_then(|values| values.last_number);
-    let mut alone = Alone::start(calls, page);
+pub fn growing(calls: &impl Calls, start: Start, list: &[Step], ran: &mut Ran) -> Outcome {
+    let mut last = plain::values(start.page).and_then(|values| values.last_number);
+    let mut alone = Alone::start(calls, start);
     for step in list {
-        let Some(given) = Given::of(step) else {
-            alone.restart()?;
+        if let Step::Restart(profile) = *step {
+            alone.restart(profile)?;
             continue;
-        };
+        }
+        let given = Given::of(step).ok_or("a restart is no call")?;
         let mut room = given.room();
         let unread = unread(&alone.board, step);
         let fed = given.answer(calls, alone.board, &mut room, &mut alone.page);
         ran.count(fed.number);
         alone.board = fed.board;
-        if fed.number == 0 && room.get(2) == Some(&0x7C) && room.get(7).is_some_and(|error| *error != 5) {
+        let refused = |error: &u8| *error == 5 || *error == 7;
+        if fed.number == 0 && room.get(2) == Some(&0x7C) && room.get(7).is_some_and(|error| !refused(error)) {
             if let Some(number) = number_in(&unread, given) {
                 same("the number accepted is larger than the last", &last.is_none_or(|last| number > last), &true)
                     .map_err(|text| format!("{text}\n  {last:08X?}, then {number:08X}, in {}", hex(&unread)))?;
@@ -288,22 +295,26 @@ fn number_in(bytes: &[u8], given: Given) -> Option<u32> {
     has_number.then(|| u32::from_be_bytes(message[4..8].try_into().expect("four bytes")))
 }
 
+/// Rows with errors and values, right and wrong.
+const ROWS: [&[u8]; 11] = [
+    &[0x80, 2, 7, 5],
+    &[0x80, 2, 8, 6],
+    &[0x80, 2, 8, 7],
+    &[0x80, 2, 8, 7, 8, 1, 3],
+    &[0x80, 2, 8, 0, 8, 1, 6],
+    &[0x80, 2, 8, 0, 8, 1, 7],
+    &[0x80, 2, 8, 6, 8, 1, 6],
+    &[0x80, 2, 7, 0, 7, 1, 2],
+    &[0x80, 2, 1, 0, 1, 4, 0, 0, 0x25, 0x80],
+    &[0x80, 2, 0x70, 0, 0x70, 4, 0, 0, 0, 1],
+    &[0x80, 2, 7, 5, 7, 1, 2],
+];
+
 /// Replies of type 7C: each count of rows with and without values, each error, and replies of all kinds, right, wrong and
 /// damaged.
 pub fn replies(calls: &impl Calls, rng: &mut Rng, ran: &mut Ran) -> Outcome {
-    let row: [&[u8]; 9] = [
-        &[0x80, 2, 7, 5],
-        &[0x80, 2, 8, 6],
-        &[0x80, 2, 8, 0, 8, 1, 6],
-        &[0x80, 2, 8, 0, 8, 1, 7],
-        &[0x80, 2, 8, 6, 8, 1, 6],
-        &[0x80, 2, 7, 0, 7, 1, 2],
-        &[0x80, 2, 1, 0, 1, 4, 0, 0, 0x25, 0x80],
-        &[0x80, 2, 0x70, 0, 0x70, 4, 0, 0, 0, 1],
-        &[0x80, 2, 7, 5, 7, 1, 2],
-    ];
     for count in 0..=18 {
-        for row in row {
+        for row in ROWS {
             rows(calls, &plain::message(0x7C, &row.repeat(count)), ran)?;
         }
     }
@@ -318,7 +329,8 @@ pub fn replies(calls: &impl Calls, rng: &mut Rng, ran: &mut Ran) -> Outcome {
             0 => {
                 let values = numbered::values(rng);
                 let received = numbered::command(rng, values.last_number);
-                plain::handle(0, &received, generate::usable_settings(rng), values).reply
+                let (profile, port) = (generate::profile(rng), rng.below(2) as u8);
+                plain::handle(profile, port, &received, generate::usable_settings(rng), values).reply
             }
             _ => fields::reply_of_kind(rng, 0x7C),
         };

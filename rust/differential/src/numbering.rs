@@ -3,10 +3,14 @@
 
 use crate::faults::Fault;
 use crate::folds::Reported;
-use plain::{Handled, Row, Values};
+use plain::{Handled, Profile, Row, Values};
 
-/// What the fault gives of a message; none where it does not show.
+/// What the fault gives of a message; none where it does not show. A port that may use no numbered command has none of these
+/// faults.
 pub fn wrong(fault: Fault, reported: &Reported) -> Option<Handled> {
+    if reported.restricted() {
+        return None;
+    }
     let good = plain::sums_right(&reported.message);
     let mut handled = match (reported.kind(), good) {
         (0x7C, false) => damaged(fault, reported),
@@ -91,7 +95,8 @@ impl Numbered<'_> {
     /// of a type that has no fields.
     fn inside(&self, port: u8, values: Values) -> Handled {
         let kind = if self.kind == 0x7C { 0x03 } else { self.kind };
-        let handled = plain::handle(port, &plain::message(kind, self.fields), self.reported.settings, values);
+        let message = plain::message(kind, self.fields);
+        let handled = plain::handle(Profile::Full, port, &message, self.reported.settings, values);
         Handled { reply: Vec::new(), ..handled }
     }
 
@@ -176,7 +181,7 @@ impl Numbered<'_> {
             Fault::NumberInNumber if self.kind == 0x7C => {
                 let message = plain::message(0x7C, self.fields);
                 let values = keeping(values, Some(self.number));
-                plain::handle(self.reported.port, &message, self.reported.settings, values)
+                plain::handle(self.reported.profile, self.reported.port, &message, self.reported.settings, values)
             }
             Fault::ReplyOfInnerType => Handled { reply: plain::reply_of(self.kind, &accepted.rows), ..accepted },
             _ => return None,
@@ -286,7 +291,7 @@ fn fold(
     let mut so_far = Handled { rows: Vec::new(), ..reported.refused(0, 0) };
     for field in fields {
         let message = plain::message(reported.kind(), field);
-        let mut one = plain::handle(port(field), &message, so_far.settings, so_far.values);
+        let mut one = plain::handle(Profile::Full, port(field), &message, so_far.settings, so_far.values);
         let other = error(field, &one.rows[0]);
         if let Some(error) = other {
             one = Handled { saved: false, settings: so_far.settings, values: so_far.values, ..one };
@@ -311,8 +316,8 @@ fn right_without_a_fault() {
         let message = numbered::command(&mut rng, values.last_number);
         let settings = generate::usable_settings(&mut rng);
         let port = rng.below(2) as u8;
-        let expected = plain::handle(port, &message, settings, values);
-        let reported = Reported::new(message, port, settings, values);
+        let expected = plain::handle(Profile::Full, port, &message, settings, values);
+        let reported = Reported::new(Profile::Full, port, message, settings, values);
         if let Some(numbered) = Numbered::of(&reported) {
             let right = numbered.right();
             assert_eq!(Handled { reply: plain::reply_of(0x7C, &right.rows), ..right }, expected);

@@ -2,7 +2,7 @@
 //! feeds and restarts over pages that hold them.
 
 use crate::calls::Calls;
-use crate::feeding::{Given, Pair};
+use crate::feeding::{Given, Pair, Start};
 use crate::group::{Outcome, Ran};
 use crate::in_place::start_any_board;
 use crate::lists::{run_or_shrink, Beside};
@@ -60,12 +60,13 @@ pub fn all(calls: &impl Calls, rng: &mut Rng, ran: &mut Ran) -> Outcome {
     let (gyroscope_fields, other_fields) = (gyroscope_fields(), other_fields());
     for values in pages(rng) {
         let page = plain::write_page(&values);
-        singles::start(calls, &page, ran)?;
+        singles::start_in_any(calls, rng, &page, ran)?;
         start_any_board(calls, rng, &page, ran)?;
         boards(calls, rng, &page, ran)?;
         for field in &gyroscope_fields {
             (1..=5).try_for_each(|working| on_working(calls, rng, &page, working, field, ran))?;
-            in_lists(calls, &page, field, ran)?;
+            let profile = generate::profile(rng);
+            in_lists(calls, Start { profile, page: &page }, field, ran)?;
         }
         for field in &other_fields {
             on_working(calls, rng, &page, 2, field, ran)?;
@@ -120,17 +121,18 @@ fn pairs(calls: &impl Calls, rng: &mut Rng, page: &[u8], fields: &[Vec<u8>], ran
 }
 
 /// From a start on the page: another range is used, then comes the field, then a report; a restart, a report and a load;
-/// a save, a restart and a load. Port 1 needs no number.
-fn in_lists(calls: &impl Calls, page: &[u8], field: &[u8], ran: &mut Ran) -> Outcome {
+/// a save, a restart and a load. Port 1 needs no number, but on a read-only board it may only report.
+fn in_lists(calls: &impl Calls, start: Start, field: &[u8], ran: &mut Ran) -> Outcome {
+    let restart = Step::Restart(start.profile);
     let feed = |port: u8, chunk: Vec<u8>| Step::Feed(Call { port, chunk, room: Board::REPLY });
     let setting = |data: &[u8]| feed(1, plain::message(0x02, &[&[0x08, data.len() as u8], data].concat()));
     for command in commands(field) {
         for (port, beside) in [(0, Beside::Reckoning), (1, Beside::Reckoning), (0, Beside::Wrapper)] {
             let [using, report, save, load] = [&[1, 1][..], &[2], &[3], &[4]].map(setting);
             let tried = feed(port, command.clone());
-            let before = [using, tried.clone(), report.clone(), Step::Restart, report.clone(), load.clone()];
-            let after = [tried, save, Step::Restart, load, report];
-            run_or_shrink(calls, page, &[&before[..], &after].concat(), beside, ran)?;
+            let before = [using, tried.clone(), report.clone(), restart.clone(), report.clone(), load.clone()];
+            let after = [tried, save, restart.clone(), load, report];
+            run_or_shrink(calls, start, &[&before[..], &after].concat(), beside, ran)?;
         }
     }
     Ok(())
@@ -146,6 +148,7 @@ pub fn lists(calls: &impl Calls, rng: &mut Rng, ran: &mut Ran) -> Outcome {
         _ => (Beside::Nothing, 10),
     };
     let pieces = rng.between(1, pieces);
-    let list = ranges::history(rng, &page, pieces);
-    run_or_shrink(calls, &page, &list, beside, ran)
+    let start = Start { profile: generate::profile(rng), page: &page };
+    let list = ranges::history(rng, start.profile, &page, pieces);
+    run_or_shrink(calls, start, &list, beside, ran)
 }

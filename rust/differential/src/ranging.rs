@@ -3,7 +3,7 @@
 
 use crate::faults::Fault;
 use crate::folds::Reported;
-use plain::{Handled, Row, Settings, Values};
+use plain::{Handled, Profile, Row, Settings, Values};
 
 const GYROSCOPE: u8 = 0x08;
 
@@ -38,8 +38,8 @@ struct Before {
 /// A command of type 02 whose fields are reached, on its own or behind a fresh number.
 struct Command {
     fields: Vec<Vec<u8>>,
-    /// The port that its fields are handled as on: on port 1 none needs a number.
-    port: u8,
+    /// The profile and the port that its fields are handled as on: on port 1 of a full board all may be used without a number.
+    on: (Profile, u8),
     before: Before,
     /// Whether its number was written.
     saved: bool,
@@ -51,19 +51,19 @@ impl Command {
             return None;
         }
         let (settings, values) = (reported.settings, reported.values);
-        let (payload, port, before, saved) = match (reported.kind(), reported.payload()) {
-            (0x02, payload) => (payload, reported.port, Before { settings, values }, false),
-            (0x7C, [a, b, c, d, 0x02, inner @ ..]) => {
+        let (payload, on, before, saved) = match (reported.kind(), reported.payload()) {
+            (0x02, payload) => (payload, (reported.profile, reported.port), Before { settings, values }, false),
+            (0x7C, [a, b, c, d, 0x02, inner @ ..]) if !reported.restricted() => {
                 let number = u32::from_be_bytes([*a, *b, *c, *d]);
                 let spent = Values { last_number: Some(number), ..values };
                 let fresh = plain::fresh(number, &values).then_some(inner)?;
-                (fresh, 1, Before { settings, values: spent }, true)
+                (fresh, (Profile::Full, 1), Before { settings, values: spent }, true)
             }
             _ => return None,
         };
         let bytes = |field: &plain::Part| payload[field.place - 2..field.place + field.data.len()].to_vec();
         let fields: Vec<Vec<u8>> = plain::fields_of(payload)?.iter().map(bytes).collect();
-        (1..=16).contains(&fields.len()).then_some(Command { fields, port, before, saved })
+        (1..=16).contains(&fields.len()).then_some(Command { fields, on, before, saved })
     }
 
     /// The fields one after the other, each as it is to be handled, or as told instead.
@@ -72,7 +72,8 @@ impl Command {
         let mut so_far = Handled { rows: Vec::new(), reply: Vec::new(), saved: self.saved, settings, values };
         for field in &self.fields {
             let before = Before { settings: so_far.settings, values: so_far.values };
-            let right = plain::handle(self.port, &plain::message(0x02, field), before.settings, before.values);
+            let (profile, port) = self.on;
+            let right = plain::handle(profile, port, &plain::message(0x02, field), before.settings, before.values);
             let one = instead(field, before, &right).unwrap_or(right);
             so_far.rows.extend(one.rows);
             so_far.saved |= one.saved;
@@ -197,8 +198,9 @@ fn right_without_a_fault() {
         if plain::check_message(&message) != 0 {
             continue;
         }
-        let expected = plain::handle(port, &message, settings, values);
-        let reported = Reported::new(message, port, settings, values);
+        let profile = generate::profile(&mut rng);
+        let expected = plain::handle(profile, port, &message, settings, values);
+        let reported = Reported::new(profile, port, message, settings, values);
         assert_eq!(wrong(Fault::JunkKept, &reported), None);
         if let Some(command) = Command::of(&reported) {
             let right = command.fold(|_, _, _| None);

@@ -1,7 +1,7 @@
 //! The plain reading's records as the library's.
 
 use ketphiroj::ffi::{FlatField, FlatReply, FlatValues, StartedInPlace, Written};
-use ketphiroj::{Board, Port, Settings};
+use ketphiroj::{Board, Port, Profile, Settings};
 
 fn port(port: &plain::Port) -> Port {
     Port { bytes: port.bytes, held: port.held }
@@ -12,12 +12,29 @@ fn settings(settings: plain::Settings) -> Settings {
     Settings { baud, accelerometer, gyroscope }
 }
 
-pub fn board(board: &plain::Board) -> Board {
-    Board { first: port(&board.ports[0]), second: port(&board.ports[1]), settings: settings(board.settings) }
+pub fn readonly(profile: plain::Profile) -> bool {
+    profile == plain::Profile::ReadOnly
 }
 
-pub fn started_in_place((number, started): (u8, plain::Settings)) -> StartedInPlace {
-    StartedInPlace { settings: settings(started), number }
+pub fn profile(profile: plain::Profile) -> Profile {
+    match profile {
+        plain::Profile::Full => Profile::Full,
+        plain::Profile::ReadOnly => Profile::ReadOnly,
+    }
+}
+
+pub fn board(board: &plain::Board) -> Board {
+    Board {
+        first: port(&board.ports[0]),
+        second: port(&board.ports[1]),
+        settings: settings(board.settings),
+        readonly: readonly(board.profile),
+    }
+}
+
+pub fn started_in_place(started: plain::StartedInPlace) -> StartedInPlace {
+    let plain::StartedInPlace { number, settings: working, profile } = started;
+    StartedInPlace { settings: settings(working), number, readonly: readonly(profile) }
 }
 
 pub fn written((number, length): (u8, usize)) -> Written {

@@ -111,6 +111,12 @@ fn built(calls: &impl Calls, rng: &mut Rng, ran: &mut Ran) -> Outcome {
         same("length of the payload", &length, &plain_length)?;
         same("payload", &room[..], &plain_room[..])?;
     }
-    let handled = plain::handle(0, &plain::message(kind, &room[..length]), plain::FACTORY, plain::Values::default());
+    let handled = plain::handle(
+        plain::Profile::Full,
+        0,
+        &plain::message(kind, &room[..length]),
+        plain::FACTORY,
+        plain::Values::default(),
+    );
     same("rows without error", &handled.rows.iter().filter(|row| row.error == 0).count(), &count)
 }

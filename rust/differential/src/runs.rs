@@ -1,10 +1,12 @@
 //! Runs of A5 of every length, in front of messages and of noise, and within messages.
 
 use crate::calls::Calls;
+use crate::feeding::Start;
 use crate::group::{Outcome, Ran};
 use crate::lists::{run_or_shrink, Beside};
 use ketphiroj::Board;
 use plain::generate::{self, Behind, Call, Rng, Step};
+use plain::Profile;
 
 const LONGEST: usize = 320;
 
@@ -35,20 +37,21 @@ fn both_ports(
     ran: &mut Ran,
 ) -> Outcome {
     let page = generate::sound_page(rng);
+    let start = Start { profile: generate::profile(rng), page: &page };
     let streams = [stream(rng), stream(rng)];
     if length <= SHORT {
         // The lists are short, and so compared with the reckoning too.
-        cut_at_every_place(calls, &page, &streams, Beside::Reckoning, ran)?;
+        cut_at_every_place(calls, start, &streams, Beside::Reckoning, ran)?;
     }
     let list: Vec<Step> = generate::offered(rng, &page, streams).into_iter().map(Step::Feed).collect();
-    run_or_shrink(calls, &page, &list, Beside::Nothing, ran)
+    run_or_shrink(calls, start, &list, Beside::Nothing, ran)
 }
 
 /// The ports alternate: a first part to each, then the rest. The one stream is cut from its front on, the other from
 /// its end.
 pub fn cut_at_every_place(
     calls: &impl Calls,
-    page: &[u8],
+    start: Start,
     streams: &[Vec<u8>; 2],
     beside: Beside,
     ran: &mut Ran,
@@ -58,7 +61,7 @@ pub fn cut_at_every_place(
         let (begun, ended) = first.split_at(cut.min(first.len()));
         let (other_begun, other_ended) = second.split_at(second.len().saturating_sub(cut));
         let list = used_up(&[(0, begun), (1, other_begun), (0, ended), (1, other_ended)]);
-        run_or_shrink(calls, page, &list, beside, ran)?;
+        run_or_shrink(calls, start, &list, beside, ran)?;
     }
     Ok(())
 }
@@ -76,10 +79,10 @@ fn used_up(chunks: &[(u8, &[u8])]) -> Vec<Step> {
 }
 
 /// Chunks and silences in turn, each called until the answer is 1. The answers are those of the plain board on a blank
-/// page.
+/// page; in either profile they are the same as far as they are looked at.
 pub fn to_the_end(arrivals: &[Arrival]) -> Vec<Step> {
     let mut page = vec![0xFF; 64];
-    let (_, mut board) = plain::start(&page);
+    let (_, mut board) = plain::start(Profile::Full, &page);
     let mut list = Vec::new();
     for arrival in arrivals {
         let mut rest = match arrival {

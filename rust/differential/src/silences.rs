@@ -2,7 +2,7 @@
 //! false headers of each length; messages that a silence cuts at each place; and single silences of boards of any contents.
 
 use crate::calls::{Calls, Fed};
-use crate::feeding::{same_board, same_bytes, Given, Pair};
+use crate::feeding::{same_board, same_bytes, Given, Pair, Start};
 use crate::group::{same, Outcome, Ran};
 use crate::lists::{or_shrink, reckon, reckoned_state, reply_in, run_or_shrink, Beside};
 use crate::numbered::{growing, unread, Alone};
@@ -12,35 +12,37 @@ use crate::singles;
 use ketphiroj::Board;
 use plain::generate::numbered::{self, numbered, Silences};
 use plain::generate::{self, silences, Rng, Step};
-use plain::{Accepted, Draining, Reckoned, Reckoning, SumLaw};
+use plain::{Accepted, Draining, Profile, Reckoned, Reckoning, SumLaw};
 
-/// A page, and a list from it of up to so many pieces.
-fn page_and_list(rng: &mut Rng, pieces: usize, silences: Silences) -> ([u8; 64], Vec<Step>) {
-    let page = silences::page(rng);
+/// A profile, a page, and a list from them of up to so many pieces.
+fn start_and_list(rng: &mut Rng, pieces: usize, silences: Silences) -> (Profile, [u8; 64], Vec<Step>) {
+    let (profile, page) = (generate::profile(rng), silences::page(rng));
     let pieces = rng.between(1, pieces);
-    let list = silences::history(rng, &page, pieces, silences);
-    (page, list)
+    let list = silences::history(rng, profile, &page, pieces, silences);
+    (profile, page, list)
 }
 
 /// Drained lists: the library against the reckoning, with no plain port between them.
 pub fn drained(calls: &impl Calls, rng: &mut Rng, ran: &mut Ran) -> Outcome {
     // The reckoning goes through all bytes again for each byte: short lists for it.
-    let (page, list) = page_and_list(rng, 3, Silences::Drained);
-    or_shrink(&page, &list, ran, |list, ran| against_reckoning(calls, &page, list, ran))
+    let (profile, page, list) = start_and_list(rng, 3, Silences::Drained);
+    let start = Start { profile, page: &page };
+    or_shrink(start, &list, ran, |list, ran| against_reckoning(calls, start, list, ran))
 }
 
 /// Each answer, reply, state and page is the reckoning's, as long as the list is drained: with fewer steps it may not be.
-fn against_reckoning(calls: &impl Calls, page: &[u8], list: &[Step], ran: &mut Ran) -> Outcome {
-    let mut alone = Alone::start(calls, page);
-    let mut reckoning = Reckoning::new(page);
+pub fn against_reckoning(calls: &impl Calls, start: Start, list: &[Step], ran: &mut Ran) -> Outcome {
+    let mut alone = Alone::start(calls, start);
+    let mut reckoning = Reckoning::new(start.profile, start.page);
     let mut draining = Draining::default();
     for (place, step) in list.iter().enumerate() {
-        let Some(given) = Given::of(step) else {
-            alone.restart()?;
-            reckoning.restart();
+        if let Step::Restart(profile) = *step {
+            alone.restart(profile)?;
+            reckoning.restart(profile);
             draining = Draining::default();
             continue;
-        };
+        }
+        let given = Given::of(step).ok_or("a restart is no call")?;
         // Not the library's number: with that, a feed that it wrongly accepts would end the comparison.
         let reckoned = reckon(&mut reckoning, given);
         if !draining.allows(step.answered(reckoned.number)) {
@@ -64,26 +66,28 @@ fn against_reckoning(calls: &impl Calls, page: &[u8], list: &[Step], ran: &mut R
 /// them.
 pub fn any(calls: &impl Calls, rng: &mut Rng, ran: &mut Ran) -> Outcome {
     let silences = rng.pick(&[Silences::Drained, Silences::Anywhere, Silences::Anywhere]);
-    let (page, list) = page_and_list(rng, 8, silences);
+    let (profile, page, list) = start_and_list(rng, 8, silences);
     let beside = if rng.chance(1, 4) { Beside::Wrapper } else { Beside::Nothing };
-    run_or_shrink(calls, &page, &list, beside, ran)
+    run_or_shrink(calls, Start { profile, page: &page }, &list, beside, ran)
 }
 
 /// Lists with silences anywhere, of the library alone: 02-06.6, "demand 1 and the sum law hold there".
 pub fn laws(calls: &impl Calls, rng: &mut Rng, ran: &mut Ran) -> Outcome {
-    let (page, list) = page_and_list(rng, 8, Silences::Anywhere);
-    or_shrink(&page, &list, ran, |list, ran| lawful(calls, &page, list, ran))
+    let (profile, page, list) = start_and_list(rng, 8, Silences::Anywhere);
+    let start = Start { profile, page: &page };
+    or_shrink(start, &list, ran, |list, ran| lawful(calls, start, list, ran))
 }
 
-fn lawful(calls: &impl Calls, page: &[u8], list: &[Step], ran: &mut Ran) -> Outcome {
-    let mut alone = Alone::start(calls, page);
+fn lawful(calls: &impl Calls, start: Start, list: &[Step], ran: &mut Ran) -> Outcome {
+    let mut alone = Alone::start(calls, start);
     let mut sums = [SumLaw::default(); 2];
     for (place, step) in list.iter().enumerate() {
-        let Some(given) = Given::of(step) else {
-            alone.restart()?;
+        if let Step::Restart(profile) = *step {
+            alone.restart(profile)?;
             sums = Default::default();
             continue;
-        };
+        }
+        let given = Given::of(step).ok_or("a restart is no call")?;
         let told = |text| format!("step {place}: {text}");
         let (before, page) = (alone.board, alone.page.clone());
         let mut room = given.room();
@@ -139,8 +143,9 @@ fn accepted(before: &Board, step: &Step, fed: &Fed, reply: &[u8], sums: &mut [Su
 /// 02-06.7 on the library alone: over histories with silences, drained or not, the numbers that it accepts grow.
 pub fn grow(calls: &impl Calls, rng: &mut Rng, ran: &mut Ran) -> Outcome {
     let silences = rng.pick(&[Silences::Drained, Silences::Anywhere]);
-    let (page, list) = page_and_list(rng, 12, silences);
-    or_shrink(&page, &list, ran, |list, ran| growing(calls, &page, list, ran))
+    let (profile, page, list) = start_and_list(rng, 12, silences);
+    let start = Start { profile, page: &page };
+    or_shrink(start, &list, ran, |list, ran| growing(calls, start, list, ran))
 }
 
 /// What stands behind a false header: commands, damaged ones, headers, parts of them, nothing.
@@ -173,24 +178,24 @@ pub fn false_headers(calls: &impl Calls, rng: &mut Rng, ran: &mut Ran) -> Outcom
         for (place, bytes) in behind.iter().enumerate() {
             let header = [0xA5, 0xA5, rng.pick(&[0x01, 0x02, 0x7C, 0xFF]), length];
             let port = ((place + usize::from(length)) % 2) as u8;
-            cut(calls, port, [&header[..], bytes], bytes, ran)?;
+            cut(calls, (generate::profile(rng), port), [&header[..], bytes], bytes, ran)?;
         }
     }
     for port in [0, 1] {
         for bytes in &behind {
             (0..=bytes.len()).try_for_each(|at| {
                 let (begun, ended) = bytes.split_at(at);
-                cut(calls, port, [begun, &[]], ended, ran)
+                cut(calls, (generate::profile(rng), port), [begun, &[]], ended, ran)
             })?;
         }
-        full_ports(calls, port, ran)?;
+        full_ports(calls, (generate::profile(rng), port), ran)?;
     }
     Ok(())
 }
 
 /// These two chunks, a silence, what comes behind it, another silence, and a Ping. The other port has a part of a command
 /// before, and its end after the silence.
-fn cut(calls: &impl Calls, port: u8, chunks: [&[u8]; 2], after: &[u8], ran: &mut Ran) -> Outcome {
+fn cut(calls: &impl Calls, (profile, port): (Profile, u8), chunks: [&[u8]; 2], after: &[u8], ran: &mut Ran) -> Outcome {
     let command = plain::message(0x02, &[0x07, 2, 1, 4]);
     let (begun, ended) = command.split_at(5);
     let ping = plain::message(0x01, &[0x02, 0]);
@@ -205,20 +210,20 @@ fn cut(calls: &impl Calls, port: u8, chunks: [&[u8]; 2], after: &[u8], ran: &mut
         Arrival::Chunk(port, &ping),
         Arrival::Silence(1 - port),
     ]);
-    let page = [0xFF; 64];
-    or_shrink(&page, &list, ran, |list, ran| against_reckoning(calls, &page, list, ran))
+    let start = Start { profile, page: &[0xFF; 64] };
+    or_shrink(start, &list, ran, |list, ran| against_reckoning(calls, start, list, ran))
 }
 
 /// 260 bytes held behind a header that claims 255: filled with headers that claim more than what follows, with a Ping at
 /// each fourth place, the last of them behind what is held.
-fn full_ports(calls: &impl Calls, port: u8, ran: &mut Ran) -> Outcome {
+fn full_ports(calls: &impl Calls, (profile, port): (Profile, u8), ran: &mut Ran) -> Outcome {
     let ping = plain::message(0x01, &[0x02, 0]);
     for place in (4..=260).step_by(4) {
         let mut held = [0xA5, 0xA5, 0x01, 0xFF].repeat(65);
         let end = held.len().min(place + ping.len());
         held[place..end].copy_from_slice(&ping[..end - place]);
         let list = to_the_end(&[Arrival::Chunk(port, &held), Arrival::Silence(port), Arrival::Chunk(port, &ping)]);
-        run_or_shrink(calls, &[0xFF; 64], &list, Beside::Wrapper, ran)?;
+        run_or_shrink(calls, Start { profile, page: &[0xFF; 64] }, &list, Beside::Wrapper, ran)?;
     }
     Ok(())
 }

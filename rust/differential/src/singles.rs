@@ -1,7 +1,7 @@
 //! Single feeds, silences and starts on boards and pages of any contents, and each command there is.
 
 use crate::calls::Calls;
-use crate::feeding::{self, Given, Pair};
+use crate::feeding::{self, Given, Pair, Start};
 use crate::group::{Outcome, Ran};
 use crate::lists::hex;
 use crate::records;
@@ -44,21 +44,24 @@ fn shown(before: &Pair, given: Given) -> String {
         Given::Silence { port, room } => format!("silence of port {port}, room {room}"),
     };
     format!(
-        "  {call}\n  page {}\n  port 0 holds {} of {}\n  port 1 holds {} of {}\n  {:?}",
+        "  {call}\n  page {}\n  port 0 holds {} of {}\n  port 1 holds {} of {}\n  {:?}, {:?}",
         hex(&before.page),
         first.held,
         hex(&first.bytes),
         second.held,
         hex(&second.bytes),
-        before.plain.settings
+        before.plain.settings,
+        before.plain.profile
     )
 }
 
 /// A start on a page of any contents and length.
-pub fn start(calls: &impl Calls, page: &[u8], ran: &mut Ran) -> Outcome {
-    let (number, pair) = feeding::start(calls, page).map_err(|text| format!("{text}\n  page {}", hex(page)))?;
+pub fn start(calls: &impl Calls, given: Start, ran: &mut Ran) -> Outcome {
+    let Start { profile, page } = given;
+    let (number, pair) =
+        feeding::start(calls, given).map_err(|text| format!("{text}\n  {profile:?}, page {}", hex(page)))?;
     ran.count(number);
-    let wrapped = calls.wrapped_start(page).map_err(|refusal| refusal.number());
+    let wrapped = calls.wrapped_start(records::profile(profile), page).map_err(|refusal| refusal.number());
     let expected = if number == 0 { Ok(pair.board) } else { Err(number) };
     crate::group::same("wrapped start", &wrapped, &expected)
 }
@@ -67,18 +70,24 @@ pub fn start(calls: &impl Calls, page: &[u8], ran: &mut Ran) -> Outcome {
 pub fn starts(calls: &impl Calls, rng: &mut Rng, ran: &mut Ran) -> Outcome {
     for values in all_values() {
         let page = plain::write_page(&values);
-        start(calls, &page, ran)?;
+        start_in_any(calls, rng, &page, ran)?;
         for at in 0..64 {
             let mut other = page;
             other[at] = rng.byte();
-            start(calls, &other, ran)?;
+            start_in_any(calls, rng, &other, ran)?;
         }
     }
     for _ in 0..200_000 {
-        start(calls, &generate::page(rng), ran)?;
-        start(calls, &numbered::page(rng), ran)?;
+        let (page, numbered) = (generate::page(rng), numbered::page(rng));
+        start_in_any(calls, rng, &page, ran)?;
+        start_in_any(calls, rng, &numbered, ran)?;
     }
-    (0..200).try_for_each(|length| start(calls, &vec![0xFF; length], ran))
+    (0..200).try_for_each(|length| start_in_any(calls, rng, &vec![0xFF; length], ran))
+}
+
+/// A start in either profile.
+pub fn start_in_any(calls: &impl Calls, rng: &mut Rng, page: &[u8], ran: &mut Ran) -> Outcome {
+    start(calls, Start { profile: generate::profile(rng), page }, ran)
 }
 
 /// The 280 storable choices of values under the settings' codes, without a number and with each of some.
@@ -96,10 +105,16 @@ pub fn all_values() -> Vec<plain::Values> {
     all
 }
 
-/// A board that holds nothing, with any usable settings, on this page.
+/// A board that holds nothing, with any usable settings, in either profile, on this page.
 pub fn holding_nothing(rng: &mut Rng, page: &[u8]) -> Pair {
+    let profile = generate::profile(rng);
+    holding_nothing_in(rng, profile, page)
+}
+
+/// Such a board in this profile.
+pub fn holding_nothing_in(rng: &mut Rng, profile: plain::Profile, page: &[u8]) -> Pair {
     let ports = [plain::Port::fresh(), plain::Port::fresh()];
-    let plain = plain::Board { ports, settings: generate::usable_settings(rng) };
+    let plain = plain::Board { ports, settings: generate::usable_settings(rng), profile };
     Pair { board: records::board(&plain), plain, page: page.to_vec() }
 }
 

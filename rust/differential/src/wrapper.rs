@@ -1,17 +1,21 @@
 //! The wrapper's calls under test.
 
 use crate::calls::{FieldGiven, NumberedGiven};
-use ketphiroj::{Board, Field, Outcome, Refusal, Reply, Values, PAGE};
+use ketphiroj::{Board, Field, Outcome, Profile, Refusal, Reply, Values, PAGE};
 
 /// The wrapper's calls. An implementation changes some of them to plant a fault: the library's own calls are compared
 /// first, so a fault in those would never come as far as the wrapper's.
 pub trait Wrapper {
-    fn wrapped_start(&self, page: &[u8]) -> Result<Board, Refusal> {
-        Board::start(page)
+    fn wrapped_start(&self, profile: Profile, page: &[u8]) -> Result<Board, Refusal> {
+        Board::start(profile, page)
     }
 
-    fn wrapped_start_in_place(&self, board: &mut Board, page: &[u8]) -> Result<(), Refusal> {
-        board.start_in_place(page)
+    fn wrapped_start_in_place(&self, board: &mut Board, profile: Profile, page: &[u8]) -> Result<(), Refusal> {
+        board.start_in_place(profile, page)
+    }
+
+    fn wrapped_profile(&self, board: &Board) -> Profile {
+        board.profile()
     }
 
     fn wrapped_feed(

@@ -1,7 +1,7 @@
 //! How many feeds the direct feed does in a second, on generated lists.
 
 use plain::generate::{self, Rng};
-use plain::{feed, start};
+use plain::{feed, start, Profile};
 use std::time::Instant;
 
 fn main() {
@@ -20,7 +20,7 @@ fn main() {
     for _ in 0..5 {
         for (page, list) in &lists {
             let mut page = *page;
-            let (_, mut board) = start(&page);
+            let (_, mut board) = start(Profile::Full, &page);
             let mut room = [0; 230];
             for call in list {
                 let fed = feed(call.port, &board, &call.chunk, &mut room[..call.room], &mut page);

@@ -1,17 +1,21 @@
 //! Test material from a seed: messages, damaged ones, streams, chunks, pages, boards and lists of feeds; and the
 //! shrinking of a failing list. [`fields`] has the commands of several fields, and the replies to them, [`numbered`]
 //! the numbered commands, the pages that keep a number, and histories of feeds and restarts, [`ranges`] the gyroscope's
-//! ranges that this board no longer takes, [`silences`] false headers that hide commands, and lists with silences.
+//! ranges that this board no longer takes, [`silences`] false headers that hide commands, and lists with silences,
+//! [`readonly`] what port 1 of a read-only board does not do.
 //!
 //! The same seed gives the same material on every machine.
 
 pub mod fields;
 pub mod numbered;
 pub mod ranges;
+pub mod readonly;
 pub mod silences;
 
 use crate::message::payload_of;
-use crate::{feed, message, silence, start, sums, write_page, Answered, Board, Fed, Port, Settings, Sums, Values};
+use crate::{feed, message, silence, start, sums, write_page, Answered, Board, Fed, Port, Profile};
+use crate::{Settings, Sums, Values};
+use std::fmt;
 
 /// Splitmix64.
 #[derive(Clone, Debug, PartialEq, Eq)]
@@ -556,7 +560,15 @@ pub fn cut(rng: &mut Rng, stream: &[u8]) -> Vec<Vec<u8>> {
     chunks
 }
 
-// Ports, rooms, pages and boards.
+// Profiles, ports, rooms, pages and boards.
+
+/// One board in three is read-only.
+pub fn profile(rng: &mut Rng) -> Profile {
+    match rng.below(3) {
+        0 => Profile::ReadOnly,
+        _ => Profile::Full,
+    }
+}
 
 /// Mostly 0 and 1, sometimes 2 to 255.
 pub fn port(rng: &mut Rng) -> u8 {
@@ -733,7 +745,7 @@ pub fn any_port(rng: &mut Rng) -> Port {
 
 /// A sound board, with junk past the held bytes here and there.
 pub fn sound_board(rng: &mut Rng) -> Board {
-    Board { ports: [sound_port(rng), sound_port(rng)], settings: usable_settings(rng) }
+    Board { ports: [sound_port(rng), sound_port(rng)], settings: usable_settings(rng), profile: profile(rng) }
 }
 
 /// A board of any contents, sound or not; some are unsound by a range of the gyroscope alone that is no longer taken.
@@ -746,7 +758,7 @@ pub fn board(rng: &mut Rng) -> Board {
         return board;
     }
     let settings = if rng.chance(1, 2) { usable_settings(rng) } else { settings(rng) };
-    Board { ports: [any_port(rng), any_port(rng)], settings }
+    Board { ports: [any_port(rng), any_port(rng)], settings, profile: profile(rng) }
 }
 
 // Lists of feeds.
@@ -797,13 +809,14 @@ pub fn followed(rng: &mut Rng, page: &[u8], pieces: usize) -> Vec<Call> {
 }
 
 /// A list of feeds that offers again what a feed left of its chunk, as a program does that reads two lines. What is
-/// left is told by the plain feed from that page; where starting refuses the page, by one from a blank page.
+/// left is told by the plain feed from that page; where starting refuses the page, by one from a blank page. What is taken
+/// is the same in either profile.
 pub fn offered(rng: &mut Rng, page: &[u8], mut waiting: [Vec<u8>; 2]) -> Vec<Call> {
     let mut page = page.to_vec();
-    let (number, mut board) = start(&page);
+    let (number, mut board) = start(Profile::Full, &page);
     if number != 0 {
         page = vec![0xFF; 64];
-        board = start(&page).1;
+        board = start(Profile::Full, &page).1;
     }
     let mut list = Vec::new();
     // At the end some feeds more, to report what is still held. Even if each feed were refused, the list ends.
@@ -842,13 +855,13 @@ pub fn any_calls(rng: &mut Rng, page: &[u8], pieces: usize) -> Vec<Call> {
     }
 }
 
-/// A step of a list: a feed, a silence of a port with this length of room, or a start anew on the page as it then is, as
-/// after a loss of power.
+/// A step of a list: a feed, a silence of a port with this length of room, or a start anew, in this profile, on the page as it
+/// then is, as after a loss of power.
 #[derive(Clone, Debug, PartialEq, Eq)]
 pub enum Step {
     Feed(Call),
     Silence { port: u8, room: usize },
-    Restart,
+    Restart(Profile),
 }
 
 impl Step {
@@ -856,7 +869,7 @@ impl Step {
     pub fn port_and_room(&self) -> Option<(u8, usize)> {
         match *self {
             Step::Feed(Call { port, room, .. }) | Step::Silence { port, room } => Some((port, room)),
-            Step::Restart => None,
+            Step::Restart(_) => None,
         }
     }
 
@@ -864,7 +877,7 @@ impl Step {
     pub fn chunk(&self) -> &[u8] {
         match self {
             Step::Feed(call) => &call.chunk,
-            Step::Silence { .. } | Step::Restart => &[],
+            Step::Silence { .. } | Step::Restart(_) => &[],
         }
     }
 
@@ -873,7 +886,7 @@ impl Step {
         match self {
             Step::Feed(call) => Some(feed(call.port, board, &call.chunk, room, page)),
             Step::Silence { port, .. } => Some(silence(*port, board, room, page)),
-            Step::Restart => None,
+            Step::Restart(_) => None,
         }
     }
 
@@ -882,7 +895,20 @@ impl Step {
         match *self {
             Step::Feed(Call { port, .. }) => Answered::Feed { port, number },
             Step::Silence { port, .. } => Answered::Silence { port, number },
-            Step::Restart => Answered::Restart,
+            Step::Restart(_) => Answered::Restart,
+        }
+    }
+}
+
+impl fmt::Display for Step {
+    fn fmt(&self, f: &mut fmt::Formatter<'_>) -> fmt::Result {
+        match self {
+            Step::Restart(profile) => write!(f, "restart, {profile:?}"),
+            Step::Silence { port, room } => write!(f, "silence of port {port}, room {room}"),
+            Step::Feed(Call { port, chunk, room }) => {
+                write!(f, "feed port {port}, room {room}, chunk ")?;
+                chunk.iter().try_for_each(|byte| write!(f, "{byte:02X}"))
+            }
         }
     }
 }
@@ -900,7 +926,7 @@ fn with_restarts(rng: &mut Rng, calls: Vec<Call>) -> Vec<Step> {
     let mut list = Vec::with_capacity(calls.len() + 4);
     for call in calls {
         if restarts && rng.chance(2, rarity) {
-            list.push(Step::Restart);
+            list.push(Step::Restart(profile(rng)));
         }
         list.push(Step::Feed(call));
     }
@@ -933,7 +959,7 @@ impl Shrinkable for Step {
     fn bytes(&mut self) -> Option<&mut Vec<u8>> {
         match self {
             Step::Feed(call) => call.bytes(),
-            Step::Silence { .. } | Step::Restart => None,
+            Step::Silence { .. } | Step::Restart(_) => None,
         }
     }
 

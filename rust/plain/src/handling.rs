@@ -1,8 +1,25 @@
 //! Handling one message (01-026 to 01-045), which may have several fields (02-02.2 to 02-02.4, 02-02.8) and a number
-//! (02-03.1 to 02-03.8, 02-03.11), and values that this board no longer takes (02-05.1 to 02-05.7).
+//! (02-03.1 to 02-03.8, 02-03.11), and values that this board no longer takes (02-05.1 to 02-05.7); and what port 1 may not
+//! do on a read-only board (02-12.2, 02-12.7).
 
 use crate::message::{bytes_of, fields_of, kind_of, message, number_of, payload_of, sums_right, Part};
 use crate::page::{Values, LAST_NUMBER};
+
+/// What a board is started in. 02-12.2: "A board started in this profile lets port 1 use Ping and function 2 only."
+#[derive(Clone, Copy, Debug, PartialEq, Eq)]
+pub enum Profile {
+    Full,
+    ReadOnly,
+}
+
+impl Profile {
+    pub const ALL: [Profile; 2] = [Profile::Full, Profile::ReadOnly];
+
+    /// Whether a port may use Ping and function 2 only.
+    pub fn restricts(self, port: u8) -> bool {
+        self == Profile::ReadOnly && port == 1
+    }
+}
 
 /// The working values.
 #[derive(Clone, Copy, Debug, PartialEq, Eq)]
@@ -141,10 +158,22 @@ fn fields_or_error(kind: u8, payload: &[u8]) -> Result<Vec<Part<'_>>, u8> {
     }
 }
 
+/// The error of functions 1, 3, 4 and 5 in a message without a number, where it may not use them.
+fn refused_functions(profile: Profile, port: u8, values: &Values) -> Option<u8> {
+    // 02-12.7: "error 7, not allowed on this port, for functions 1, 3, 4 and 5".
+    if profile.restricts(port) {
+        return Some(7);
+    }
+    // 02-03.8: "Once the page has the entry, functions 1, 3, 4 and 5 without a number on port 0 are refused; port 1 takes
+    // them". Its error is 5 (02-03.11).
+    (port == 0 && values.last_number.is_some()).then_some(5)
+}
+
 /// The error of one field of a command of type 01 or 02, on a page with these values: the rest of 01-026's table, which a
-/// separate message with this field alone would come to. Where the command needs a number and has none, 02-03.11: "error
-/// 5 stands after 3 and before a field's own 4."
-fn field_error(kind: u8, field: &Part, number_missing: bool, values: &Values) -> u8 {
+/// separate message with this field alone would come to. Where functions 1, 3, 4 and 5 are refused, it is with the error
+/// given. 02-03.11: "error 5 stands after 3 and before a field's own 4." 02-12.7: error 7, "after 3 and before a field's own
+/// 4 to 6".
+fn field_error(kind: u8, field: &Part, refused: Option<u8>, values: &Values) -> u8 {
     let code = field.code;
 
     // "3 | [..] or the code is not one of this type's above"
@@ -162,9 +191,8 @@ fn field_error(kind: u8, field: &Part, number_missing: bool, values: &Values) ->
         return 4;
     };
 
-    // 02-03.8: "functions 1, 3, 4 and 5 without a number [..] are refused"
-    if number_missing && [1, 3, 4, 5].contains(function) {
-        return 5;
+    if let Some(error) = refused.filter(|_| [1, 3, 4, 5].contains(function)) {
+        return error;
     }
 
     // "4 | [..] size wrong; function not 1 to 5"
@@ -224,28 +252,29 @@ pub struct Handled {
     pub values: Values,
 }
 
-/// Handles one message of L + 6 bytes, good or damaged, that came on this port, on the working values and the page's
-/// values.
-pub fn handle(port: u8, received: &[u8], settings: Settings, values: Values) -> Handled {
+/// Handles one message of L + 6 bytes, good or damaged, that came on this port of a board of this profile, on the working
+/// values and the page's values.
+pub fn handle(profile: Profile, port: u8, received: &[u8], settings: Settings, values: Values) -> Handled {
     let kind = kind_of(received);
     let payload = payload_of(received);
     let mut handled = Handled { rows: Vec::new(), reply: Vec::new(), saved: false, settings, values };
     if !sums_right(received) {
         // "1 | sums wrong". 02-03.5: "a damaged message keeps document 01's echo."
         not_reached(payload, 1, &mut handled);
+    } else if kind == NUMBERED && profile.restricts(port) {
+        // 02-12.7: "any 7C with right sums gets it at once, its number unspent." The echo is that of a 7C whose fields are not
+        // reached (02-03.5).
+        not_reached(payload.get(5..).unwrap_or(&[]), 7, &mut handled);
     } else if kind == NUMBERED {
         handle_numbered(payload, &mut handled);
     } else {
-        // 02-03.8: "Once the page has the entry, functions 1, 3, 4 and 5 without a number on port 0 are refused; port 1
-        // takes them".
-        let number_missing = port == 0 && values.last_number.is_some();
-        handle_command(kind, payload, number_missing, &mut handled);
+        handle_command(kind, payload, refused_functions(profile, port, &values), &mut handled);
     }
     handled.reply = reply_of(kind, &handled.rows);
     handled
 }
 
-/// Handles the payload of a good message of type 7C, of either port.
+/// Handles the payload of a good message of type 7C, of either port, where the port may use one.
 fn handle_numbered(payload: &[u8], handled: &mut Handled) {
     // 02-03.11: "in type 7C, L under 5 is error 4,". There is no code.
     if payload.len() < 5 {
@@ -264,7 +293,7 @@ fn handle_numbered(payload: &[u8], handled: &mut Handled) {
     handled.saved = true;
 
     // "then the inner type (2), then the rest".
-    handle_command(inner_kind, inner_fields, false, handled);
+    handle_command(inner_kind, inner_fields, None, handled);
 }
 
 /// 02-03.3: "A number is fresh if it is larger than the kept one; with no entry, every number is."
@@ -275,12 +304,12 @@ pub fn fresh(number: u32, values: &Values) -> bool {
     }
 }
 
-/// Handles a command of this type and payload.
-fn handle_command(kind: u8, payload: &[u8], number_missing: bool, handled: &mut Handled) {
+/// Handles a command of this type and payload; the error that functions 1, 3, 4 and 5 are refused with, where they are.
+fn handle_command(kind: u8, payload: &[u8], refused: Option<u8>, handled: &mut Handled) {
     match fields_or_error(kind, payload) {
         // 02-02.3: "It leaves the settings and page that separate messages of the same type, one for each field in
         // order, would leave."
-        Ok(fields) => fields.iter().for_each(|field| handle_field(kind, field, number_missing, handled)),
+        Ok(fields) => fields.iter().for_each(|field| handle_field(kind, field, refused, handled)),
         Err(error) => not_reached(payload, error, handled),
     }
 }
@@ -293,9 +322,9 @@ fn not_reached(payload: &[u8], error: u8, handled: &mut Handled) {
 }
 
 /// Handles one field, on the settings and the page's values that those before it left.
-fn handle_field(kind: u8, field: &Part, number_missing: bool, handled: &mut Handled) {
+fn handle_field(kind: u8, field: &Part, refused: Option<u8>, handled: &mut Handled) {
     let code = field.code;
-    let error = field_error(kind, field, number_missing, &handled.values);
+    let error = field_error(kind, field, refused, &handled.values);
     let mut row = Row { echo: code, error, value: None };
     // Only an accepted setting has a function. "Ping without both" (01-048).
     if row.error == 0 && kind == 0x02 {

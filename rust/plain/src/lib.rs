@@ -1,7 +1,7 @@
 //! The board's protocol in plain Rust, and material to test with.
 //!
-//! This is a reading of the paper ("01", the board's protocol, line by line), with requests 01 to 06 of the change
-//! requests ("02"), and not of the library. It is slow and obvious, in the papers' words and order; numbers such as
+//! This is a reading of the paper ("01", the board's protocol, line by line), with requests 01 to 06 and 12 of the
+//! change requests ("02"), and not of the library. It is slow and obvious, in the papers' words and order; numbers such as
 //! 01-014 and 02-01.3 are those of the papers' sentences. READINGS.md says how each sentence is read that leaves a
 //! doubt, and which readings docs/DECISIONS.md settles. [`read_page`], [`body`], [`append_field`], [`write_numbered`]
 //! and [`start_in_place`] are no calls of the papers': which numbers they give, and in which order, is decided there.
@@ -39,11 +39,11 @@ pub mod sum_law;
 pub mod writers;
 
 pub use handling::{fresh, handle, loaded, readable, reply_of, storable, usable, value_size};
-pub use handling::{Handled, Row, Settings, FACTORY};
+pub use handling::{Handled, Profile, Row, Settings, FACTORY};
 pub use listing::listing;
 pub use message::{check_message, fields_of, message, sums, sums_right, Part, Sums};
 pub use page::{body, check_page, factory_page, read_page, values, write_page, Values};
-pub use port::{feed, silence, start, start_in_place, Board, Fed, Port};
+pub use port::{feed, silence, start, start_in_place, Board, Fed, Port, StartedInPlace};
 pub use readers::{field_data, read_field, read_reply, Field, Reply};
 pub use reckoning::{drained, Answered, Draining, Reckoned, Reckoning};
 pub use scan::{scan, scan_marked, Event};

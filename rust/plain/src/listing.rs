@@ -1,5 +1,6 @@
 //! The listing (01-093 to 01-097; 02-02.7).
 
+use crate::handling::Profile;
 use crate::message::length_of;
 use crate::number;
 use crate::port::{feed, start, Port};
@@ -10,7 +11,8 @@ use crate::readers::read_reply;
 /// 01-093: "A program reads standard input as port 0 of a board with a blank page."
 pub fn listing(input: &[u8]) -> String {
     let mut page = [0xFF; 64];
-    let (_, mut board) = start(&page);
+    // Of port 0 the profiles say nothing.
+    let (_, mut board) = start(Profile::Full, &page);
     let mut printed = String::from("type code error page\n");
     let mut taken = 0;
     let mut skipped = 0;

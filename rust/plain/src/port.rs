@@ -1,7 +1,7 @@
 //! Ports, the board, starting, feeding and silences (01-013 to 01-025, 01-056, 01-084 to 01-088; 02-01.3, 02-02.5, 02-03.6,
-//! 02-05.3, 02-05.4, 02-06.1 to 02-06.3, 02-06.6, 02-06.8).
+//! 02-05.3, 02-05.4, 02-06.1 to 02-06.3, 02-06.6, 02-06.8, 02-12.2, 02-12.5).
 
-use crate::handling::{handle, usable, Settings, ACCELEROMETER, BAUD, FACTORY, GYROSCOPE};
+use crate::handling::{handle, usable, Profile, Settings, ACCELEROMETER, BAUD, FACTORY, GYROSCOPE};
 use crate::message::{length_of, number_of, sums_right};
 use crate::number;
 use crate::page::{body_of, check_page, factory_page, values, write_page};
@@ -32,15 +32,19 @@ impl Port {
 pub struct Board {
     pub ports: [Port; 2],
     pub settings: Settings,
+    /// 02-12.2: "A board started in this profile".
+    pub profile: Profile,
 }
 
 /// Starting: the number and the board.
 ///
-/// 01-084: "Starting tests 19, 20". 01-087: a refusal returns "the factory settings and two fresh ports".
-pub fn start(page: &[u8]) -> (u8, Board) {
+/// 01-084: "Starting tests 19, 20". 01-087: a refusal returns "the factory settings and two fresh ports". 02-12.5: "A refused
+/// start keeps the profile asked for."
+pub fn start(profile: Profile, page: &[u8]) -> (u8, Board) {
+    let fresh = Board { ports: [Port::fresh(), Port::fresh()], settings: FACTORY, profile };
     let refused = check_page(page);
     if refused != number::DONE {
-        return (refused, Board { ports: [Port::fresh(), Port::fresh()], settings: FACTORY });
+        return (refused, fresh);
     }
     // "Loading, and starting, take the body from the page if it has the entry, else from the factory page."
     let factory = factory_page();
@@ -57,22 +61,30 @@ pub fn start(page: &[u8]) -> (u8, Board) {
         .with(BAUD, started(BAUD))
         .with(ACCELEROMETER, started(ACCELEROMETER))
         .with(GYROSCOPE, started(GYROSCOPE));
-    (number::DONE, Board { ports: [Port::fresh(), Port::fresh()], settings })
+    (number::DONE, Board { settings, ..fresh })
 }
 
-/// Starting a board that its owner keeps, whose ports have these bytes: the number and the settings. The held counts and
-/// the settings are put into the board by its owner. It is no call of the paper's; see READINGS.md.
+/// What starting a board in place answers; the held counts, the settings and the profile are put into the board by its
+/// owner.
+#[derive(Clone, Copy, Debug, PartialEq, Eq)]
+pub struct StartedInPlace {
+    pub number: u8,
+    pub settings: Settings,
+    pub profile: Profile,
+}
+
+/// Starting a board that its owner keeps, whose ports have these bytes. It is no call of the paper's; see READINGS.md.
 ///
 /// "17 | board unsound" where an array is not a port's: nothing is written. Else both become a fresh port's, also where
 /// the page is refused: a refusal of starting returns "the factory settings and two fresh ports".
-pub fn start_in_place(first: &mut [u8], second: &mut [u8], page: &[u8]) -> (u8, Settings) {
+pub fn start_in_place(profile: Profile, first: &mut [u8], second: &mut [u8], page: &[u8]) -> StartedInPlace {
     if first.len() != Port::MOST_HELD || second.len() != Port::MOST_HELD {
-        return (number::UNSOUND, FACTORY);
+        return StartedInPlace { number: number::UNSOUND, settings: FACTORY, profile };
     }
-    let (number, board) = start(page);
+    let (number, board) = start(profile, page);
     first.copy_from_slice(&board.ports[0].bytes);
     second.copy_from_slice(&board.ports[1].bytes);
-    (number, board.settings)
+    StartedInPlace { number, settings: board.settings, profile: board.profile }
 }
 
 /// 01-023: "It answers the number, the bytes taken, the bytes skipped, whether a save was accepted, and the new board." So
@@ -171,7 +183,7 @@ fn go_on(port: u8, board: &Board, undecided: Undecided, room: &mut [u8], page: &
     let Some(message) = message else {
         return Fed { number: number::USED_UP, taken, skipped, saved: false, board };
     };
-    let (saved, settings) = report(port, &message, board.settings, room, page);
+    let (saved, settings) = report(port, &message, &board, room, page);
     Fed { number: number::DONE, taken, skipped, saved, board: Board { settings, ..board } }
 }
 
@@ -228,9 +240,9 @@ fn with_held(board: &Board, port: u8, held: &[u8]) -> Board {
 ///
 /// 01-088: "A write to a room touches only the message's own bytes, from the room's front; a save writes the 64 bytes
 /// of the page." 02-03.9: "The page now changes on accepted saves and on fresh numbers".
-fn report(port: u8, message: &[u8], settings: Settings, room: &mut [u8], page: &mut [u8]) -> (bool, Settings) {
+fn report(port: u8, message: &[u8], board: &Board, room: &mut [u8], page: &mut [u8]) -> (bool, Settings) {
     let values = values(page).expect("the page of an accepted call is blank or sound");
-    let handled = handle(port, message, settings, values);
+    let handled = handle(board.profile, port, message, board.settings, values);
     room[..handled.reply.len()].copy_from_slice(&handled.reply);
     if handled.saved {
         // "A save puts its value in, keeps the other entries, and writes the page anew."

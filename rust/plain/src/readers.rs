@@ -1,4 +1,4 @@
-//! The reply reader (01-046; 02-02.7, 02-03.6, 02-05.6, 02-05.7) and the data reader (01-089 to 01-091).
+//! The reply reader (01-046; 02-02.7, 02-03.6, 02-05.6, 02-05.7, 02-12.7) and the data reader (01-089 to 01-091).
 
 use crate::handling::{readable, value_size, Row, ACCELEROMETER, BAUD, GYROSCOPE, NUMBERED};
 use crate::message::{check_message, fields_of, kind_of, number_of, payload_of, Part};
@@ -56,10 +56,11 @@ fn rows_of(kind: u8, payload: &[u8]) -> Option<Vec<Row>> {
 }
 
 /// "The reply reader takes a field 80 of size 2 with an error of the table above, as the table stands at the time, and
-/// nothing after it;" 02-03.6: "and error 5". 02-05.7: "error 6, not on this board".
+/// nothing after it;" 02-03.6: "and error 5". 02-05.7: "error 6, not on this board". 02-12.7: "error 7, not allowed on this
+/// port".
 fn row_of(field: &Part) -> Option<Row> {
     match *field.data {
-        [echo, error @ 0..=6] if field.code == 0x80 => Some(Row { echo, error, value: None }),
+        [echo, error @ 0..=7] if field.code == 0x80 => Some(Row { echo, error, value: None }),
         _ => None,
     }
 }

@@ -1,7 +1,7 @@
-//! The plain reckoning (01-057 to 01-068; 02-02.5, 02-02.6, 02-03.9, 02-05.3), with restarts (02-03.10) and silences
-//! (02-06.4, 02-06.5); and which lists demand 3 is about.
+//! The plain reckoning (01-057 to 01-068; 02-02.5, 02-02.6, 02-03.9, 02-05.3), with restarts (02-03.10), silences (02-06.4,
+//! 02-06.5) and profiles (02-12.6); and which lists demand 3 is about.
 
-use crate::handling::{handle, loaded, Settings, ACCELEROMETER, BAUD, FACTORY, GYROSCOPE};
+use crate::handling::{handle, loaded, Profile, Settings, ACCELEROMETER, BAUD, FACTORY, GYROSCOPE};
 use crate::number;
 use crate::page::{values, write_page, Values};
 use crate::scan::{scan_marked, Event};
@@ -69,6 +69,7 @@ pub struct Reckoning {
     ports: [Stream; 2],
     settings: Settings,
     values: Values,
+    profile: Profile,
 }
 
 /// "A feed that the table below refuses with 16 or 18 gets the first of them that applies, no reply and no save, takes
@@ -86,8 +87,9 @@ fn refusal(port: u8, room_length: usize) -> Option<u8> {
 
 impl Reckoning {
     /// 01-059: "The reckoning is given the page that starting got". A list of feeds begins with a page that starting
-    /// accepts, so the page is blank or sound; no other page has values to reckon with.
-    pub fn new(page: &[u8]) -> Reckoning {
+    /// accepts, so the page is blank or sound; no other page has values to reckon with. 02-12.6: "its reckoning told the
+    /// profile".
+    pub fn new(profile: Profile, page: &[u8]) -> Reckoning {
         let values = values(page).expect("the reckoning begins with a blank or sound page");
         let empty = Stream { taken: Vec::new(), marks: Vec::new(), n: 0, last: number::USED_UP };
         // "the working values, set as starting sets them; and the page's values, one or none under each code." 02-05.3:
@@ -97,7 +99,7 @@ impl Reckoning {
             .with(BAUD, started(BAUD))
             .with(ACCELEROMETER, started(ACCELEROMETER))
             .with(GYROSCOPE, started(GYROSCOPE));
-        Reckoning { ports: [empty.clone(), empty], settings, values }
+        Reckoning { ports: [empty.clone(), empty], settings, values, profile }
     }
 
     /// "then each feed's port, chunk and length of room, and nothing of the program's answers or records."
@@ -142,7 +144,8 @@ impl Reckoning {
                 // number is 0, and n grows by one." 02-02.6: "Demand 3 handles such a message as one." 02-03.9: "demand
                 // 3 stands with this handling."
                 let (place, length) = found[stream.n];
-                let handled = handle(port, &all[place..place + length], self.settings, self.values);
+                let message = &all[place..place + length];
+                let handled = handle(self.profile, port, message, self.settings, self.values);
                 self.settings = handled.settings;
                 self.values = handled.values;
                 stream.taken = all;
@@ -163,9 +166,13 @@ impl Reckoning {
     }
 
     /// A restart, of which 02-03.10 has "any history of feeds and restarts over one page": the board starts anew on the
-    /// page as it stands, and nothing but the page is kept.
-    pub fn restart(&mut self) {
-        *self = Reckoning::new(&self.page());
+    /// page as it stands, and nothing but the page is kept. Starting is told a profile each time.
+    pub fn restart(&mut self, profile: Profile) {
+        *self = Reckoning::new(profile, &self.page());
+    }
+
+    pub fn profile(&self) -> Profile {
+        self.profile
     }
 
     pub fn settings(&self) -> Settings {

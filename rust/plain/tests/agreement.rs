@@ -18,8 +18,8 @@ fn setting(name: &str, otherwise: u64) -> u64 {
 
 /// Runs a list on both. Also the law of 01-025: "Over any run from a fresh port, bytes taken on it = lengths of its
 /// good messages + bytes the scan skipped + bytes held."
-fn run(page: &[u8], list: &[Call]) -> Result<(), String> {
-    let mut both = Both::new(page);
+fn run(profile: Profile, page: &[u8], list: &[Call]) -> Result<(), String> {
+    let mut both = Both::start(profile, page);
     let mut taken = [0; 2];
     let mut skipped = [0; 2];
     let mut good = [0; 2];
@@ -75,7 +75,7 @@ fn feed_and_reckoning() {
         let page = generate::sound_page(&mut rng);
         let pieces = if rng.chance(1, 10) { 12 } else { 5 };
         let list = generate::any_calls(&mut rng, &page, pieces);
-        run_or_shrink(&format!("list {place}"), &page, &list);
+        run_or_shrink(&format!("list {place}"), generate::profile(&mut rng), &page, &list);
     }
 }
 
@@ -87,15 +87,15 @@ fn several_fields() {
         let page = generate::sound_page(&mut rng);
         let pieces = rng.between(1, 4);
         let list = fields::calls_with_fields(&mut rng, &page, pieces);
-        run_or_shrink(&format!("list {place}"), &page, &list);
+        run_or_shrink(&format!("list {place}"), generate::profile(&mut rng), &page, &list);
     }
 }
 
-fn run_or_shrink(name: &str, page: &[u8], list: &[Call]) {
-    if let Err(text) = run(page, list) {
-        let short = generate::shrink(list, |list| run(page, list).is_err());
-        let why = run(page, &short).unwrap_err();
-        panic!("{name}: {text}\npage {page:02X?}\nshortest {short:02X?}\n{why}");
+fn run_or_shrink(name: &str, profile: Profile, page: &[u8], list: &[Call]) {
+    if let Err(text) = run(profile, page, list) {
+        let short = generate::shrink(list, |list| run(profile, page, list).is_err());
+        let why = run(profile, page, &short).unwrap_err();
+        panic!("{name}: {text}\n{profile:?}, page {page:02X?}\nshortest {short:02X?}\n{why}");
     }
 }
 
@@ -108,12 +108,12 @@ fn runs_of_a5() {
         for behind in Behind::ALL {
             let streams = [(); 2].map(|()| generate::run_before(&mut rng, length, behind));
             let list = generate::offered(&mut rng, &page, streams);
-            run_or_shrink(&format!("{length} A5 before {behind:?}"), &page, &list);
+            run_or_shrink(&format!("{length} A5 before {behind:?}"), generate::profile(&mut rng), &page, &list);
         }
         if length <= 255 {
             let streams = [(); 2].map(|()| generate::run_within(&mut rng, length));
             let list = generate::offered(&mut rng, &page, streams);
-            run_or_shrink(&format!("{length} A5 within a message"), &page, &list);
+            run_or_shrink(&format!("{length} A5 within a message"), generate::profile(&mut rng), &page, &list);
         }
     }
 }
@@ -133,7 +133,8 @@ fn in_one_row(port: u8, board: &Board, chunk: &[u8], room: &mut [u8], page: &mut
             end = (place + length).max(record.held);
             fed.number = 0;
             fed.taken = end - record.held;
-            let handled = handle(port, &row[place..place + length], board.settings, values(page).unwrap());
+            let message = &row[place..place + length];
+            let handled = handle(board.profile, port, message, board.settings, values(page).unwrap());
             fed.saved = handled.saved;
             fed.board.settings = handled.settings;
             room[..handled.reply.len()].copy_from_slice(&handled.reply);
@@ -209,7 +210,7 @@ fn cutting_changes_nothing() {
         let stream = generate::stream(&mut rng, 8);
         let all = |chunks: Vec<Vec<u8>>| {
             let mut page = page;
-            let (_, mut board) = start(&page);
+            let (_, mut board) = start(Profile::Full, &page);
             let mut replies = Vec::new();
             let mut skipped = 0;
             for chunk in chunks {

@@ -243,7 +243,8 @@ fn longest_reply() {
     for _ in 0..50_000 {
         let received = if rng.chance(1, 2) { fields::several(&mut rng) } else { generate::piece(&mut rng) };
         if check_message(&received) == 0 {
-            let handled = handle(0, &received, generate::usable_settings(&mut rng), generate::values(&mut rng));
+            let handled =
+                handle(Profile::Full, 0, &received, generate::usable_settings(&mut rng), generate::values(&mut rng));
             assert!((1..=16).contains(&handled.rows.len()) && handled.reply.len() <= 166);
         }
     }

@@ -3,7 +3,7 @@
 mod common;
 
 use common::Both;
-use plain::generate::{self, fields, numbered, Behind, Call, Rng, Step};
+use plain::generate::{self, fields, numbered, readonly, silences, Behind, Call, Rng, Step};
 use plain::*;
 use std::collections::BTreeSet;
 
@@ -34,7 +34,7 @@ fn cut_and_joined() {
 
 /// The error in the first row of the reply.
 fn first_error(received: &[u8]) -> u8 {
-    handle(0, received, FACTORY, Values::default()).rows[0].error
+    handle(Profile::Full, 0, received, FACTORY, Values::default()).rows[0].error
 }
 
 /// All lengths, types, errors, and each function under each code, accepted, come in the messages.
@@ -84,7 +84,7 @@ fn several_fields_reach_everything() {
         assert_eq!(check_message(&received), 0);
         let payload = &received[4..received.len() - 2];
         counts.insert((received[2].min(3), fields_of(payload).map(|fields| fields.len())));
-        let handled = handle(0, &received, FACTORY, Values::default());
+        let handled = handle(Profile::Full, 0, &received, FACTORY, Values::default());
         saved += usize::from(handled.saved);
         for (place, row) in handled.rows.iter().enumerate() {
             errors.insert((received[2].min(3), place, row.error, row.value.is_some()));
@@ -130,7 +130,7 @@ fn replies_of_rows_reach_everything() {
         assert!((0..=18).all(|fields| refused.contains(&(kind, Some(fields)))) && refused.contains(&(kind, None)));
     }
     assert!(read.contains(&(3, 1)) && !read.contains(&(3, 2)));
-    assert!(errors.into_iter().eq(0..=6) && ranges.into_iter().eq(1..=7));
+    assert!(errors.into_iter().eq(0..=7) && ranges.into_iter().eq(1..=7));
 }
 
 /// Three settings at a time: what is used is saved, and loaded after others were used.
@@ -149,7 +149,7 @@ fn three_settings_are_loaded() {
             rest = &rest[answer.taken..];
         }
         assert_eq!(saved, 1);
-        assert_eq!(both.board, start(&both.page).1);
+        assert_eq!(both.board, start(Profile::Full, &both.page).1);
         assert_eq!(both.page[0], 3);
     }
 }
@@ -194,7 +194,7 @@ fn lists_reach_everything() {
     for _ in 0..3000 {
         let mut page = generate::sound_page(&mut rng);
         let list = generate::any_calls(&mut rng, &page, 8);
-        let (_, mut board) = start(&page);
+        let (_, mut board) = start(Profile::Full, &page);
         for call in list {
             let mut room = vec![0; call.room];
             let fed = feed(call.port, &board, &call.chunk, &mut room, &mut page);
@@ -227,16 +227,17 @@ struct Reached {
 }
 
 impl Reached {
-    fn run(&mut self, mut page: [u8; 64], list: &[Step]) {
-        let (_, mut board) = start(&page);
+    fn run(&mut self, profile: Profile, mut page: [u8; 64], list: &[Step]) {
+        let (_, mut board) = start(profile, &page);
         let mut restarted = false;
         for step in list {
-            let Some((port, room)) = step.port_and_room() else {
-                board = start(&page).1;
+            if let Step::Restart(profile) = *step {
+                board = start(profile, &page).1;
                 self.restarts += 1;
                 restarted = true;
                 continue;
-            };
+            }
+            let (port, room) = step.port_and_room().expect("a call has a room");
             let mut room = vec![0; room];
             let fed = step.answer(&board, &mut room, &mut page).expect("a call is answered");
             board = fed.board;
@@ -257,8 +258,9 @@ fn histories_reach_everything() {
     let mut reached = Reached::default();
     for _ in 0..3000 {
         let page = numbered::sound_page(&mut rng);
-        let list = numbered::history(&mut rng, &page, 8);
-        reached.run(page, &list);
+        let profile = generate::profile(&mut rng);
+        let list = numbered::history(&mut rng, profile, &page, 8);
+        reached.run(profile, page, &list);
     }
     for port in [0, 1] {
         assert!((0..=6).all(|error| reached.rows.contains(&(port, 0x7C, error))), "{:?}", reached.rows);
@@ -267,6 +269,24 @@ fn histories_reach_everything() {
     assert!(reached.rows.contains(&(0, 0x02, 5)) && !reached.rows.contains(&(1, 0x02, 5)));
     let Reached { restarts, fresh, stale_after_restart, .. } = reached;
     assert!(restarts > 2000 && fresh > 2000 && stale_after_restart > 1000, "{restarts} {fresh} {stale_after_restart}");
+}
+
+/// Histories of a read-only board reach each error that port 1 gives: of a numbered command it gives 7 and 1 alone, and never 5
+/// or 6. On port 0 all others come.
+#[test]
+fn read_only_histories_reach_everything() {
+    let mut rng = Rng::new(12);
+    let mut reached = Reached::default();
+    for _ in 0..3000 {
+        let page = silences::page(&mut rng);
+        let list = readonly::history(&mut rng, &page, 8);
+        reached.run(Profile::ReadOnly, page, &list);
+    }
+    let rows = &reached.rows;
+    let errors = |port: u8, kind: u8| (0..=255).filter(move |&error| rows.contains(&(port, kind, error)));
+    assert!(errors(1, 0x7C).eq([1, 7]) && errors(1, 0x02).eq([0, 1, 3, 4, 7]) && errors(1, 0x01).eq([0, 1, 3, 4]));
+    assert!(errors(0, 0x7C).eq(0..=6) && errors(0, 0x02).eq([0, 1, 3, 4, 5, 6]));
+    assert!(reached.restarts > 2000 && reached.fresh > 2000, "{} {}", reached.restarts, reached.fresh);
 }
 
 /// Of pages with a number: those that are refused differ from sound ones in each way.
@@ -289,7 +309,7 @@ fn pages_with_numbers() {
 /// A made-up fault: after a save on port 1, a report on port 0.
 fn fails(list: &[Call]) -> bool {
     let mut page = [0xFF; 64];
-    let (_, mut board) = start(&page);
+    let (_, mut board) = start(Profile::Full, &page);
     let mut saved = false;
     for call in list {
         let mut room = vec![0; call.room];
@@ -345,7 +365,7 @@ fn any_page() {
     for _ in 0..300 {
         let page = generate::page(&mut rng);
         let list = generate::any_calls(&mut rng, &page, 3);
-        if start(&page).0 != 0 {
+        if start(Profile::Full, &page).0 != 0 {
             continue;
         }
         accepted += 1;

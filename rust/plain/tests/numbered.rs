@@ -389,7 +389,7 @@ fn inside_as_outside() {
 
         let with_number = Values { last_number: Some(number), ..values(&page).unwrap() };
         let mut outside = Both::new(&write_page(&with_number));
-        assert_eq!(outside.board.settings, start(&page).1.settings);
+        assert_eq!(outside.board.settings, start(Profile::Full, &page).1.settings);
         // A message of type A5 is not found, and one of type 7C would be numbered itself: both have error 2 inside.
         let other = if kind == 0xA5 || kind == 0x7C { 0x03 } else { kind };
         let separate = fed(&mut outside, 1, &message(other, &fields));
@@ -493,8 +493,8 @@ fn replay_without_numbers() {
 
 /// What a list of feeds and restarts has come to: each feed's answer is compared with the reckoning, and the numbers
 /// accepted are told by the messages and the replies alone.
-fn run(page: &[u8], list: &[Step]) -> Result<Vec<u32>, String> {
-    let mut both = Both::new(page);
+fn run(profile: Profile, page: &[u8], list: &[Step]) -> Result<Vec<u32>, String> {
+    let mut both = Both::start(profile, page);
     let mut accepted = Vec::new();
     for step in list {
         let unread = common::unread(&both.board, step);
@@ -520,18 +520,20 @@ fn no_number_twice() {
     for place in 0..3000 {
         let page = if rng.chance(1, 3) { [0xFF; 64] } else { numbered::sound_page(&mut rng) };
         let pieces = rng.between(1, 12);
-        let list = numbered::history(&mut rng, &page, pieces);
+        let profile = generate::profile(&mut rng);
+        let list = numbered::history(&mut rng, profile, &page, pieces);
         let grows = |list: &[Step]| {
             let kept = values(&page).unwrap().last_number.into_iter();
-            run(&page, list).map(|accepted| kept.chain(accepted).is_sorted_by(|one, next| one < next))
+            run(profile, &page, list).map(|accepted| kept.chain(accepted).is_sorted_by(|one, next| one < next))
         };
         if grows(&list) != Ok(true) {
             let short = generate::shrink(&list, |list| grows(list) != Ok(true));
-            panic!("list {place}: page {page:02X?}\nshortest {short:02X?}\n{:02X?}", run(&page, &short));
+            let why = run(profile, &page, &short);
+            panic!("list {place}: {profile:?}, page {page:02X?}\nshortest {short:02X?}\n{why:02X?}");
         }
-        taken += run(&page, &list).unwrap().len();
+        taken += run(profile, &page, &list).unwrap().len();
         steps += list.len();
-        restarts += list.iter().filter(|step| **step == Step::Restart).count();
+        restarts += list.iter().filter(|step| matches!(step, Step::Restart(_))).count();
     }
     assert!(taken > 3000 && restarts > 2000, "{taken} numbers, {steps} steps, {restarts} restarts");
 }
@@ -586,8 +588,8 @@ fn written_is_handled() {
         let (_, other) = write_command(code, function, value, &mut without);
         let settings = generate::usable_settings(&mut rng);
         let spent = Values { last_number: Some(number), ..values };
-        let handled = handle(rng.below(2) as u8, &with[..length], settings, values);
-        let expected = handle(1, &without[..other], settings, spent);
+        let handled = handle(Profile::Full, rng.below(2) as u8, &with[..length], settings, values);
+        let expected = handle(Profile::Full, 1, &without[..other], settings, spent);
         assert_eq!(handled.rows, expected.rows);
         let held = values.gyroscope.filter(|_| code == 0x08 && function == 4);
         assert_eq!(handled.rows[0].error, if matches!(held, Some(6 | 7)) { 6 } else { 0 });
@@ -610,7 +612,8 @@ fn replies() {
     for kind in [0x00, 0x01, 0x02, 0x7C, 0xFF] {
         assert_eq!(read_reply(&message(kind, &hex("80020705")), 0), row(kind, 7, 5, None));
         assert_eq!(read_reply(&message(kind, &hex("80020706")), 0), row(kind, 7, 6, None));
-        assert_eq!(read_reply(&message(kind, &hex("80020707")), 0).number, 23);
+        assert_eq!(read_reply(&message(kind, &hex("80020707")), 0), row(kind, 7, 7, None));
+        assert_eq!(read_reply(&message(kind, &hex("80020708")), 0).number, 23);
         // A value stands in types 02 and 7C alone.
         let number = if kind == 0x02 || kind == 0x7C { 0 } else { 23 };
         assert_eq!(read_reply(&message(kind, &hex("80020700 070103")), 0).number, number);
@@ -625,7 +628,7 @@ fn replies() {
     for _ in 0..20_000 {
         let values = numbered::values(&mut rng);
         let received = numbered::command(&mut rng, values.last_number);
-        let handled = handle(0, &received, generate::usable_settings(&mut rng), values);
+        let handled = handle(Profile::Full, 0, &received, generate::usable_settings(&mut rng), values);
         for (place, &Row { echo, error, value }) in handled.rows.iter().enumerate() {
             assert_eq!(read_reply(&handled.reply, place), row(0x7C, echo, error, value));
         }

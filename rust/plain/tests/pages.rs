@@ -46,10 +46,12 @@ fn searched(all: &[(Values, [u8; 64])], page: &[u8]) -> Option<Values> {
 fn sound_is_a_writing() {
     let all = writings();
     assert_eq!(all.len(), 280);
+    let mut rng = Rng::new(64);
     for (written, page) in &all {
         assert_eq!(values(page), Some(*written));
         assert_eq!(read_page(page), (0, *written));
-        let (number, board) = start(page);
+        let profile = rng.pick(&Profile::ALL);
+        let (number, board) = start(profile, page);
         assert_eq!(number, 0);
         let expected = Settings {
             baud: written.baud.unwrap_or(115200),
@@ -57,9 +59,8 @@ fn sound_is_a_writing() {
             // 02-05.3: "starting uses the factory value".
             gyroscope: written.gyroscope.filter(|&range| range != 6 && range != 7).unwrap_or(3),
         };
-        assert_eq!(board, Board { ports: [Port::fresh(), Port::fresh()], settings: expected });
+        assert_eq!(board, Board { ports: [Port::fresh(), Port::fresh()], settings: expected, profile });
     }
-    let mut rng = Rng::new(64);
     let mut numbers = [0; 32];
     for turn in 0..60_000 {
         let page = if turn % 2 == 0 { generate::page(&mut rng) } else { numbered::page(&mut rng) };
@@ -104,7 +105,7 @@ fn numbers() {
     ] {
         let page = page_of(text);
         assert_eq!(check_page(&page), expected, "{text}");
-        assert_eq!(start(&page).0, expected, "{text}");
+        assert_eq!(start(Profile::Full, &page).0, expected, "{text}");
         assert_eq!(read_page(&page).1.last_number.is_some(), expected == 0, "{text}");
         assert_eq!(body(&page, &factory_page(), 0x70).1.len(), if expected == 0 { 4 } else { 0 }, "{text}");
     }
@@ -113,7 +114,7 @@ fn numbers() {
     assert_eq!(read_page(&page), (0, all));
     assert_eq!(write_page(&all)[..], page);
     // The range is read, but not taken (02-05.3).
-    assert_eq!(start(&page).1.settings, Settings { baud: 921600, accelerometer: 4, gyroscope: 3 });
+    assert_eq!(start(Profile::Full, &page).1.settings, Settings { baud: 921600, accelerometer: 4, gyroscope: 3 });
     assert_eq!(body(&page, &factory_page(), 0x70), (0, &[1, 2, 3, 4][..]));
     // "the factory page has none", and a page without the entry has no number.
     assert_eq!(body(&factory_page(), &factory_page(), 0x70), (0, &[][..]));
@@ -123,7 +124,7 @@ fn numbers() {
 #[test]
 fn factory() {
     assert_eq!(factory_page()[..], page_of("03 010A04 070E01 080F01 0001C200 02 03"));
-    assert_eq!(start(&factory_page()).1.settings, FACTORY);
+    assert_eq!(start(Profile::Full, &factory_page()).1.settings, FACTORY);
     assert_eq!(write_page(&Values::default()), [0xFF; 64]);
 }
 
@@ -155,17 +156,21 @@ fn lookup() {
 #[test]
 fn started_in_place() {
     let pages = [page_of("01 080401 07"), page_of("01 080401 09"), vec![0xFF; 64], vec![0xFF; 63]];
-    for (page, number) in pages.iter().zip([0, 20, 0, 19]) {
+    for ((page, number), profile) in
+        pages.iter().zip([0, 20, 0, 19]).flat_map(|case| Profile::ALL.map(|one| (case, one)))
+    {
         let (mut first, mut second) = ([0x31; 260], [0x62; 260]);
-        let (started, board) = start(page);
-        assert_eq!(started, number);
-        assert_eq!(start_in_place(&mut first, &mut second, page), (number, board.settings));
+        let (started, board) = start(profile, page);
+        assert_eq!((started, board.profile), (number, profile));
+        let in_place = start_in_place(profile, &mut first, &mut second, page);
+        assert_eq!(in_place, StartedInPlace { number, settings: board.settings, profile });
         assert_eq!((first, second), ([0; 260], [0; 260]));
     }
     for (first, second) in [(0, 260), (259, 260), (261, 260), (260, 0), (260, 259), (260, 261), (261, 261)] {
         let (mut first, mut second) = (vec![0x31; first], vec![0x62; second]);
-        for page in &pages {
-            assert_eq!(start_in_place(&mut first, &mut second, page), (17, FACTORY));
+        for (page, profile) in pages.iter().flat_map(|page| Profile::ALL.map(|profile| (page, profile))) {
+            let in_place = start_in_place(profile, &mut first, &mut second, page);
+            assert_eq!(in_place, StartedInPlace { number: 17, settings: FACTORY, profile });
             assert!(first.iter().all(|&byte| byte == 0x31) && second.iter().all(|&byte| byte == 0x62));
         }
     }

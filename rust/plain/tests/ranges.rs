@@ -94,7 +94,7 @@ fn unsound_boards() {
     for (range, expected) in (0..=255).map(|range| (range, if (1..=5).contains(&range) { 0 } else { 17 })) {
         for held in ["", "01 080401 03", "01 080401 06", "01 080401 07"] {
             let page = page_of(held);
-            let mut board = start(&page).1;
+            let mut board = start(Profile::Full, &page).1;
             board.settings.gyroscope = range;
             let (mut room, mut fed_page) = ([0x33; 166], page.clone());
             let fed = feed(1, &board, &message(0x02, &[0x08, 1, 3]), &mut room, &mut fed_page);
@@ -185,12 +185,13 @@ fn the_entry_is_kept() {
 #[test]
 fn lists() {
     let mut rng = Rng::new(5);
-    let mut errors = [0; 7];
+    let mut errors = [0; 8];
     let (mut restarts, mut old_at_the_end) = (0, 0);
     for _ in 0..1500 {
         let page = ranges::old_page(&mut rng);
-        let mut both = Both::new(&page);
-        for step in ranges::history(&mut rng, &page, 5) {
+        let profile = generate::profile(&mut rng);
+        let mut both = Both::start(profile, &page);
+        for step in ranges::history(&mut rng, profile, &page, 5) {
             let Some(answer) = both.try_step(&step).unwrap() else {
                 restarts += 1;
                 continue;

@@ -31,7 +31,7 @@ fn command_writer() {
                     None => assert_eq!(answer, (28, 0)),
                     Some(payload) => {
                         let written = message(if code == 0x02 { 0x01 } else { 0x02 }, &payload);
-                        assert_eq!(handle(0, &written, FACTORY, Values::default()).rows[0].error, 0);
+                        assert_eq!(handle(Profile::Full, 0, &written, FACTORY, Values::default()).rows[0].error, 0);
                         if length < written.len() {
                             assert_eq!(answer, (18, 0));
                         } else {
@@ -78,7 +78,10 @@ fn field_writer() {
                         let end = length + field.len();
                         assert_eq!(answer, (0, end));
                         expected_room[length..end].copy_from_slice(&field);
-                        assert_eq!(handle(0, &message(kind, &field), FACTORY, Values::default()).rows[0].error, 0);
+                        assert_eq!(
+                            handle(Profile::Full, 0, &message(kind, &field), FACTORY, Values::default()).rows[0].error,
+                            0
+                        );
                     }
                 }
                 assert_eq!(room, expected_room);
@@ -105,7 +108,7 @@ fn payload_of_written_fields() {
     }
     let mut room = [0; 261];
     assert_eq!(write_message(0x02, &payload, &mut room), (0, 21));
-    let handled = handle(0, &room[..21], FACTORY, Values::default());
+    let handled = handle(Profile::Full, 0, &room[..21], FACTORY, Values::default());
     assert_eq!(handled.settings, Settings { baud: 921600, accelerometer: 4, gyroscope: 5 });
     assert_eq!(handled.rows.len(), 3);
     // A range over 255 is none of the usable ones.
@@ -164,7 +167,7 @@ fn reply_reader() {
     assert_eq!(read_reply(&hex("A5A5A5048002020178A9"), 0), nothing(22));
 
     for error in 0..=255 {
-        let expected = if error <= 6 { reply(0x63, 9, error, None) } else { nothing(23) };
+        let expected = if error <= 7 { reply(0x63, 9, error, None) } else { nothing(23) };
         assert_eq!(read_reply(&message(0x63, &[0x80, 2, 9, error]), 0), expected);
     }
     assert_eq!(read_reply(&message(2, &hex("80020100 0104 0001C200")), 0), reply(2, 1, 0, Some(115200)));
@@ -261,7 +264,7 @@ fn wrong_rows() {
         (2, "8003070000"),             // 80 of size 3
         (2, "800107"),                 // 80 of size 1
         (2, "8000"),                   // 80 of size 0
-        (2, "80020707"),               // no error of the table
+        (2, "80020708"),               // no error of the table
         (2, "80020705 070102"),        // a value after error 5
         (2, "80020806 080106"),        // a value after error 6
         (2, "070102"),                 // a value without a row
@@ -284,7 +287,7 @@ fn replies_are_read() {
     for turn in 0..40_000 {
         let received = if turn % 2 == 0 { generate::any_good(&mut rng) } else { fields::several(&mut rng) };
         let settings = generate::usable_settings(&mut rng);
-        let handled = handle(0, &received, settings, generate::values(&mut rng));
+        let handled = handle(Profile::Full, 0, &received, settings, generate::values(&mut rng));
         for (place, &Row { echo, error, value }) in handled.rows.iter().enumerate() {
             let expected = Reply { number: 0, kind: received[2], echo, error, value };
             assert_eq!(read_reply(&handled.reply, place), expected);

@@ -163,7 +163,7 @@ fn held() {
     let longest = message(0x01, &[0x11; 255]);
     assert_eq!(longest.len(), Port::LONGEST_MESSAGE);
 
-    let mut board = start(&page).1;
+    let mut board = start(Profile::Full, &page).1;
     board.ports[0].bytes.copy_from_slice(&longest[..260]);
     board.ports[0].held = 260;
     let mut room = [0; Port::LONGEST_REPLY];
@@ -172,7 +172,7 @@ fn held() {
     assert_eq!(fed.board, board);
     let fed = feed(0, &board, &longest[260..], &mut room, &mut page.clone());
     assert_eq!((fed.number, fed.taken, fed.skipped), (0, 1, 0));
-    assert_eq!(fed.board, start(&page).1);
+    assert_eq!(fed.board, start(Profile::Full, &page).1);
     // Fields of 19 bytes do not fill it.
     assert_eq!(room[6..8], [0x11, 4]);
 
@@ -184,7 +184,7 @@ fn held() {
 
     for port in 0..2 {
         for held in [261, 300, usize::MAX] {
-            let mut board = start(&page).1;
+            let mut board = start(Profile::Full, &page).1;
             board.ports[port].held = held;
             for fed_port in 0..2 {
                 let mut room = [7; 166];
@@ -299,11 +299,11 @@ fn rooms() {
 /// "pages of 63 and 65 bytes"
 #[test]
 fn pages() {
-    let fresh = Board { ports: [Port::fresh(), Port::fresh()], settings: FACTORY };
+    let fresh = Board { ports: [Port::fresh(), Port::fresh()], settings: FACTORY, profile: Profile::Full };
     for (length, expected) in [(0, 19), (63, 19), (64, 0), (65, 19), (128, 19)] {
         let mut page = vec![0xFF; length];
         assert_eq!(check_page(&page), expected);
-        assert_eq!(start(&page), (expected, fresh));
+        assert_eq!(start(Profile::Full, &page), (expected, fresh));
         let mut room = [9; 166];
         let fed = feed(0, &fresh, &hex(P1), &mut room, &mut page);
         assert_eq!(fed.number, expected);
@@ -333,7 +333,7 @@ fn pages() {
     ] {
         let page = page_of(text);
         assert_eq!(check_page(&page), expected, "{text}");
-        assert_eq!(start(&page).0, expected, "{text}");
+        assert_eq!(start(Profile::Full, &page).0, expected, "{text}");
         let mut fed_page = page.clone();
         let fed = feed(0, &fresh, &hex("A5A50203010103 547F"), &mut [0; 166], &mut fed_page);
         assert_eq!(fed.number, expected);
@@ -341,7 +341,7 @@ fn pages() {
             assert_eq!(fed_page, page);
         }
     }
-    let (_, board) = start(&page_of("02 010704 080B01 000E1000 05"));
+    let (_, board) = start(Profile::Full, &page_of("02 010704 080B01 000E1000 05"));
     assert_eq!(board.settings, Settings { baud: 921600, accelerometer: 2, gyroscope: 5 });
 }
 

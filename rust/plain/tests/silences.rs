@@ -85,7 +85,7 @@ fn what_is_undecided_is_skipped() {
         let mut both = Both::blank();
         hold(&mut both, 0, &hex(held));
         assert_eq!(told(&both.silence(0)), (1, hex(held).len(), vec![]), "{held}");
-        assert_eq!((both.board, &both.page[..]), (start(&[0xFF; 64]).1, &[0xFF; 64][..]));
+        assert_eq!((both.board, &both.page[..]), (start(Profile::Full, &[0xFF; 64]).1, &[0xFF; 64][..]));
     }
 }
 
@@ -154,7 +154,7 @@ fn a_full_port() {
 #[test]
 fn refusals() {
     let page = [0xFF; 64];
-    let (_, sound) = start(&page);
+    let (_, sound) = start(Profile::Full, &page);
     let over = |port: usize| {
         let mut board = sound;
         board.ports[port].held = 261;
@@ -201,7 +201,7 @@ fn a_refused_silence_makes_no_mark() {
 #[test]
 fn junk_is_cleared() {
     for held in [0, 1, 8, 260] {
-        let mut board = start(&[0xFF; 64]).1;
+        let mut board = start(Profile::Full, &[0xFF; 64]).1;
         board.ports = [Port { bytes: [0x44; 260], held: 3 }, Port { bytes: [0x55; 260], held }];
         board.ports[1].bytes[..held.min(8)].copy_from_slice(&hex(P1)[..held.min(8)]);
         let answer = silence(1, &board, &mut [0; 166], &mut [0xFF; 64]);
@@ -239,8 +239,8 @@ fn marked_streams() {
 #[test]
 fn an_earlier_feed() {
     let mut page = [0xFF; 64];
-    let (_, mut board) = start(&page);
-    let mut reckoning = Reckoning::new(&page);
+    let (_, mut board) = start(Profile::Full, &page);
+    let mut reckoning = Reckoning::new(Profile::Full, &page);
     let held = [hex("A5A501FF"), hex(P1), hex(P1)[..3].to_vec()].concat();
     let mut room = [0; 166];
     board = feed(0, &board, &held, &mut room, &mut page).board;
@@ -386,8 +386,8 @@ struct Alone {
 }
 
 impl Alone {
-    fn new(page: &[u8]) -> Alone {
-        Alone { board: start(page).1, page: page.to_vec(), laws: Default::default() }
+    fn new(profile: Profile, page: &[u8]) -> Alone {
+        Alone { board: start(profile, page).1, page: page.to_vec(), laws: Default::default() }
     }
 
     /// One call. Gives the answer and the reply.
@@ -429,15 +429,16 @@ impl Alone {
 
 /// Runs a list on the port alone: what 02-06.6 promises of every list, drained or not. "demand 1 and the sum law hold
 /// there".
-fn run_alone(page: &[u8], list: &[Step]) -> Result<Run, String> {
+fn run_alone(profile: Profile, page: &[u8], list: &[Step]) -> Result<Run, String> {
     let mut run = Run::default();
-    let mut alone = Alone::new(page);
+    let mut alone = Alone::new(profile, page);
     for step in list {
-        let Some((_, room)) = step.port_and_room() else {
-            alone = Alone::new(&alone.page);
+        if let Step::Restart(profile) = *step {
+            alone = Alone::new(profile, &alone.page);
             run.answers.push(Answered::Restart);
             continue;
-        };
+        }
+        let (_, room) = step.port_and_room().expect("a call has a room");
         let unread = common::unread(&alone.board, step);
         let (fed, reply) = alone.call(step, room)?;
         run.answers.push(step.answered(fed.number));
@@ -458,11 +459,11 @@ impl Run {
 }
 
 /// Runs a list on the port and on the reckoning. Nothing is asked of a list that is not drained.
-fn run_reckoned(page: &[u8], list: &[Step]) -> Result<(), String> {
-    if !drained(&run_alone(page, list)?.answers) {
+fn run_reckoned(profile: Profile, page: &[u8], list: &[Step]) -> Result<(), String> {
+    if !drained(&run_alone(profile, page, list)?.answers) {
         return Ok(());
     }
-    let mut both = Both::new(page);
+    let mut both = Both::start(profile, page);
     for (place, step) in list.iter().enumerate() {
         both.try_step(step).map_err(|text| format!("step {place}: {text}"))?;
         both.compare_state().map_err(|text| format!("after step {place}: {text}"))?;
@@ -479,12 +480,13 @@ fn drained_lists_agree() {
     for place in 0..3000 {
         let page = silences::page(&mut rng);
         let pieces = rng.between(1, 5);
-        let list = silences::history(&mut rng, &page, pieces, Silences::Drained);
-        if let Err(text) = run_reckoned(&page, &list) {
-            let short = generate::shrink(&list, |list| run_reckoned(&page, list).is_err());
-            panic!("list {place}: {text}\npage {page:02X?}\nshortest {short:02X?}");
+        let profile = generate::profile(&mut rng);
+        let list = silences::history(&mut rng, profile, &page, pieces, Silences::Drained);
+        if let Err(text) = run_reckoned(profile, &page, &list) {
+            let short = generate::shrink(&list, |list| run_reckoned(profile, &page, list).is_err());
+            panic!("list {place}: {text}\n{profile:?}, page {page:02X?}\nshortest {short:02X?}");
         }
-        let run = run_alone(&page, &list).unwrap();
+        let run = run_alone(profile, &page, &list).unwrap();
         assert!(drained(&run.answers), "list {place}");
         for (number, times) in numbers.iter_mut().zip(run.silences) {
             *number += times;
@@ -507,17 +509,18 @@ fn any_lists() {
     for place in 0..3000 {
         let page = silences::page(&mut rng);
         let pieces = rng.between(1, 5);
-        let list = silences::history(&mut rng, &page, pieces, Silences::Anywhere);
-        match run_alone(&page, &list) {
-            Ok(run) if drained(&run.answers) => run_reckoned(&page, &list).unwrap(),
+        let profile = generate::profile(&mut rng);
+        let list = silences::history(&mut rng, profile, &page, pieces, Silences::Anywhere);
+        match run_alone(profile, &page, &list) {
+            Ok(run) if drained(&run.answers) => run_reckoned(profile, &page, &list).unwrap(),
             Ok(_) => {
                 undrained += 1;
-                let mut both = Both::new(&page);
+                let mut both = Both::start(profile, &page);
                 others += usize::from(list.iter().any(|step| both.try_step(step).is_err()));
             }
             Err(text) => {
-                let short = generate::shrink(&list, |list| run_alone(&page, list).is_err());
-                panic!("list {place}: {text}\npage {page:02X?}\nshortest {short:02X?}");
+                let short = generate::shrink(&list, |list| run_alone(profile, &page, list).is_err());
+                panic!("list {place}: {text}\n{profile:?}, page {page:02X?}\nshortest {short:02X?}");
             }
         }
     }
@@ -534,17 +537,18 @@ fn no_number_twice() {
         let page = silences::page(&mut rng);
         let pieces = rng.between(1, 12);
         let silences = rng.pick(&[Silences::Drained, Silences::Anywhere]);
-        let list = silences::history(&mut rng, &page, pieces, silences);
+        let profile = generate::profile(&mut rng);
+        let list = silences::history(&mut rng, profile, &page, pieces, silences);
         let grows = |list: &[Step]| {
             let kept = values(&page).unwrap().last_number.into_iter();
-            run_alone(&page, list).map(|run| kept.chain(run.accepted).is_sorted_by(|one, next| one < next))
+            run_alone(profile, &page, list).map(|run| kept.chain(run.accepted).is_sorted_by(|one, next| one < next))
         };
         if grows(&list) != Ok(true) {
             let short = generate::shrink(&list, |list| grows(list) != Ok(true));
-            panic!("list {place}: page {page:02X?}\nshortest {short:02X?}");
+            panic!("list {place}: {profile:?}, page {page:02X?}\nshortest {short:02X?}");
         }
-        taken += run_alone(&page, &list).unwrap().accepted.len();
-        restarts += list.iter().filter(|step| **step == Step::Restart).count();
+        taken += run_alone(profile, &page, &list).unwrap().accepted.len();
+        restarts += list.iter().filter(|step| matches!(step, Step::Restart(_))).count();
     }
     assert!(taken > 2000 && restarts > 2000, "{taken} numbers, {restarts} restarts");
 }
@@ -598,11 +602,11 @@ fn a_list_by_hand() {
     let feed = |chunk: &str| Step::Feed(Call { port: 0, chunk: hex(chunk), room: 166 });
     let silence = Step::Silence { port: 0, room: 166 };
     let list = [feed("A5A501FF"), feed(P1), silence.clone(), silence.clone(), feed(P2), silence];
-    let run = run_alone(&[0xFF; 64], &list).unwrap();
+    let run = run_alone(Profile::Full, &[0xFF; 64], &list).unwrap();
     let number = |answer: &Answered| match *answer {
         Answered::Feed { number, .. } | Answered::Silence { number, .. } => number,
         Answered::Restart => panic!("no restart"),
     };
     assert_eq!(run.answers.iter().map(number).collect::<Vec<_>>(), [1, 1, 0, 1, 0, 1]);
-    run_reckoned(&[0xFF; 64], &list).unwrap();
+    run_reckoned(Profile::Full, &[0xFF; 64], &list).unwrap();
 }

@@ -146,7 +146,7 @@ fn a_run_in_held_bytes() {
     assert_eq!((answer.number, answer.taken, answer.skipped), (1, 0, 4));
     assert_eq!(both.held(0), 2);
 
-    let mut board = start(&[0xFF; 64]).1;
+    let mut board = start(Profile::Full, &[0xFF; 64]).1;
     board.ports[1] = Port { bytes: [0xA5; 260], held: 260 };
     let fed = feed(1, &board, &[], &mut [0; Port::LONGEST_REPLY], &mut [0xFF; 64]);
     assert_eq!((fed.number, fed.taken, fed.skipped), (1, 0, 258));

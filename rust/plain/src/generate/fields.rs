@@ -198,7 +198,7 @@ fn right_row(rng: &mut Rng, kind: u8) -> Vec<u8> {
         let value = listed_value(rng, code);
         return [vec![0x80, 2, code, 0, code, size as u8], bytes_of(value, size)].concat();
     }
-    vec![0x80, 2, code(rng), rng.below(7) as u8]
+    vec![0x80, 2, code(rng), rng.below(8) as u8]
 }
 
 /// A row that is mostly wrong: the field 80, its size or error, or the value behind it.
@@ -209,10 +209,10 @@ fn wrong_row(rng: &mut Rng) -> Vec<u8> {
     match rng.below(9) {
         0 => [vec![0x80, 3, code, 0], rng.bytes(1)].concat(),
         1 => vec![0x80, 1, code],
-        2 => first(if rng.chance(1, 2) { 7 } else { rng.between(7, 255) as u8 }),
+        2 => first(if rng.chance(1, 2) { 8 } else { rng.between(8, 255) as u8 }),
         3 => vec![rng.byte(), 2, code, 0],
         // A value after an error, of another code, twice, of a code that has none, and of another size.
-        4 => [first(rng.between(1, 6) as u8), value_field(rng, code)].concat(),
+        4 => [first(rng.between(1, 7) as u8), value_field(rng, code)].concat(),
         5 => [first(0), value_field(rng, other)].concat(),
         6 => [first(0), value_field(rng, code), value_field(rng, code)].concat(),
         7 => [vec![0x80, 2, other, 0], value_field(rng, other)].concat(),

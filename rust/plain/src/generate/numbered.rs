@@ -3,11 +3,12 @@
 //! They stand beside the generators of commands without a number, whose material is not to change.
 
 use super::{
-    accepted_command, chunk_length, damage, fields, mutated, other_length, page_of_entries, piece, port, ranges, room,
+    accepted_command, chunk_length, damage, fields, mutated, other_length, page_of_entries, piece, port, profile,
+    ranges, room,
 };
 use super::{code, value, Board, Call, Rng, Step};
 use crate::message::{bytes_of, number_of, payload_of};
-use crate::{check_message, feed, message, silence, start, write_page, Draining, Fed, Port, Values};
+use crate::{check_message, feed, message, silence, start, write_page, Draining, Fed, Port, Profile, Values};
 
 // Numbers.
 
@@ -234,14 +235,16 @@ impl History {
         self.sent.push(piece);
     }
 
-    /// A start anew on the page as it stands. What a port held is lost; what it was still to be given may be, too.
+    /// A start anew, in any profile, on the page as it stands. What a port held is lost; what it was still to be given may
+    /// be, too.
     fn restart(&mut self, rng: &mut Rng) {
-        self.board = start(&self.page).1;
+        let profile = profile(rng);
+        self.board = start(profile, &self.page).1;
         self.draining = Draining::default();
         if rng.chance(1, 2) {
             self.waiting = [Vec::new(), Vec::new()];
         }
-        self.steps.push(Step::Restart);
+        self.steps.push(Step::Restart(profile));
     }
 
     /// A feed of a beginning of what waits for a port. What it takes is given; the rest waits on.
@@ -290,15 +293,22 @@ impl History {
     }
 }
 
-/// A list of feeds and restarts over one page, which is blank or sound: so many pieces, on both ports, with numbers about
-/// the one that the page keeps at the time, and with pieces that are sent again, before and after restarts.
-pub fn history(rng: &mut Rng, page: &[u8], pieces: usize) -> Vec<Step> {
-    history_of(rng, page, pieces, numbered_piece, Silences::None)
+/// A list of feeds and restarts, from a start in this profile, over one page, which is blank or sound: so many pieces, on both
+/// ports, with numbers about the one that the page keeps at the time, and with pieces that are sent again, before and after
+/// restarts.
+pub fn history(rng: &mut Rng, profile: Profile, page: &[u8], pieces: usize) -> Vec<Step> {
+    history_of(rng, (profile, page), pieces, numbered_piece, Silences::None)
 }
 
-/// Such a list of these pieces, with these silences.
-pub fn history_of(rng: &mut Rng, page: &[u8], pieces: usize, piece: PieceOf, silences: Silences) -> Vec<Step> {
-    let (board, page, waiting) = (start(page).1, page.to_vec(), [Vec::new(), Vec::new()]);
+/// Such a list of these pieces, with these silences, from a start in this profile on this page.
+pub fn history_of(
+    rng: &mut Rng,
+    (profile, page): (Profile, &[u8]),
+    pieces: usize,
+    piece: PieceOf,
+    silences: Silences,
+) -> Vec<Step> {
+    let (board, page, waiting) = (start(profile, page).1, page.to_vec(), [Vec::new(), Vec::new()]);
     let (sent, steps, draining) = (Vec::new(), Vec::new(), Draining::default());
     let mut history = History { piece, silences, draining, board, page, waiting, sent, steps };
     let mut left = pieces;

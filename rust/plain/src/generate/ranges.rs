@@ -3,7 +3,7 @@
 
 use super::numbered::{self, history_of, numbered, Silences};
 use super::{fields, Rng, Step};
-use crate::{message, write_page, Values};
+use crate::{message, write_page, Profile, Values};
 
 /// 02-05.2: "Codes 06 and 07 are no longer taken."
 pub const OLD: [u8; 2] = [0x06, 0x07];
@@ -50,7 +50,7 @@ pub fn old_page(rng: &mut Rng) -> [u8; 64] {
     write_page(&Values { gyroscope: Some(rng.pick(&OLD)), ..values })
 }
 
-/// A list of feeds and restarts over one page, with commands of the gyroscope's range.
-pub fn history(rng: &mut Rng, page: &[u8], pieces: usize) -> Vec<Step> {
-    history_of(rng, page, pieces, piece, Silences::None)
+/// A list of feeds and restarts, from a start in this profile, over one page, with commands of the gyroscope's range.
+pub fn history(rng: &mut Rng, profile: Profile, page: &[u8], pieces: usize) -> Vec<Step> {
+    history_of(rng, (profile, page), pieces, piece, Silences::None)
 }

@@ -3,6 +3,7 @@
 
 use super::numbered::{self, history_of, Silences};
 use super::{accepted_command, damage, noise, run, sound_page, Rng, Step};
+use crate::Profile;
 
 /// The four bytes of a header that is not A5 A5 A5. 02-06.1: "A false header can claim 255 bytes": half of them do so.
 pub fn header(rng: &mut Rng) -> Vec<u8> {
@@ -59,7 +60,8 @@ pub fn page(rng: &mut Rng) -> [u8; 64] {
     }
 }
 
-/// A list of feeds, silences and restarts over one page, which is blank or sound, of so many pieces on both ports.
-pub fn history(rng: &mut Rng, page: &[u8], pieces: usize, silences: Silences) -> Vec<Step> {
-    history_of(rng, page, pieces, piece, silences)
+/// A list of feeds, silences and restarts, from a start in this profile, over one page, which is blank or sound, of so many
+/// pieces on both ports.
+pub fn history(rng: &mut Rng, profile: Profile, page: &[u8], pieces: usize, silences: Silences) -> Vec<Step> {
+    history_of(rng, (profile, page), pieces, piece, silences)
 }

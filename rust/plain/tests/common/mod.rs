@@ -3,7 +3,7 @@
 #![allow(dead_code)]
 
 use plain::generate::Step;
-use plain::{check_message, feed, scan_marked, silence, start, Board, Event, Fed, Port, Reckoned, Reckoning};
+use plain::{check_message, feed, scan_marked, silence, start, Board, Event, Fed, Port, Profile, Reckoned, Reckoning};
 
 /// "Blanks are only for the eye."
 pub fn hex(text: &str) -> Vec<u8> {
@@ -39,30 +39,40 @@ pub struct Answer {
 }
 
 impl Both {
-    /// From a blank or sound page.
-    pub fn new(page: &[u8]) -> Both {
-        let (number, board) = start(page);
+    /// In a profile, from a blank or sound page.
+    pub fn start(profile: Profile, page: &[u8]) -> Both {
+        let (number, board) = start(profile, page);
         assert_eq!(number, 0);
-        let both = Both { board, page: page.to_vec(), reckoning: Reckoning::new(page) };
+        let both = Both { board, page: page.to_vec(), reckoning: Reckoning::new(profile, page) };
         both.compare_state().unwrap();
         both
+    }
+
+    /// In the full profile, from a blank or sound page.
+    pub fn new(page: &[u8]) -> Both {
+        Both::start(Profile::Full, page)
     }
 
     pub fn blank() -> Both {
         Both::new(&[0xFF; 64])
     }
 
-    /// A start anew on the page as it stands, and in the reckoning.
+    /// A start anew in the same profile on the page as it stands, and in the reckoning.
     pub fn restart(&mut self) {
-        let (number, board) = start(&self.page);
+        self.restart_in(self.board.profile);
+    }
+
+    pub fn restart_in(&mut self, profile: Profile) {
+        let (number, board) = start(profile, &self.page);
         assert_eq!(number, 0);
         self.board = board;
-        self.reckoning.restart();
+        self.reckoning.restart(profile);
         self.compare_state().unwrap();
     }
 
-    /// Settings, held bytes and page agree; past the held bytes a port is zero.
+    /// Profile, settings, held bytes and page agree; past the held bytes a port is zero.
     pub fn compare_state(&self) -> Result<(), String> {
+        same("profile", &self.board.profile, &self.reckoning.profile())?;
         same("settings", &self.board.settings, &self.reckoning.settings())?;
         same("page", &self.page[..], &self.reckoning.page()[..])?;
         for port in 0..2u8 {
@@ -98,8 +108,8 @@ impl Both {
         match step {
             Step::Feed(call) => self.try_feed(call.port, &call.chunk, call.room).map(Some),
             Step::Silence { port, room } => self.try_silence(*port, *room).map(Some),
-            Step::Restart => {
-                self.restart();
+            Step::Restart(profile) => {
+                self.restart_in(*profile);
                 Ok(None)
             }
         }
@@ -175,9 +185,9 @@ pub fn unread(board: &Board, step: &Step) -> Vec<u8> {
 }
 
 /// The number that a step accepted, if it did: it reported a good message of type 7C that has a number and a type, and the
-/// reply is not error 5. The message is the first one that the scan finds in what was unread.
+/// reply is neither error 5 nor error 7. The message is the first one that the scan finds in what was unread.
 pub fn number_accepted(unread: &[u8], step: &Step, reply: &[u8]) -> Option<u32> {
-    if reply.is_empty() || reply[2] != 0x7C || reply[7] == 5 {
+    if reply.is_empty() || reply[2] != 0x7C || reply[7] == 5 || reply[7] == 7 {
         return None;
     }
     let marks: &[usize] = if matches!(step, Step::Silence { .. }) { &[unread.len()] } else { &[] };
