@@ -24,11 +24,11 @@ use Rattle.command.specs.declared.command.Subject.{Subject}
 use Rattle.command.specs.declared.command.Subject.the-variants.{Ping, Setting as About, Unknown}
 use Rattle.command.specs.Rights.{allRights}
 use Rattle.command.specs.Command.{commandOf, valueFor, subjectOf}
-use Rattle.command.specs.Errors.{isKind, fieldError, fieldWrong, isFunction}
+use Rattle.command.specs.Errors.{isKind, fieldError, fieldWrong, isFunction, alters}
 use Rattle.command.specs.Effects.{loading, Effect, leaving, functionEffect, effectOn, effectOf}
 use Rattle.command.specs.Outcome.{Access, State, fieldOutcome}
 use Rattle.client.specs.Writer.{acceptable, fieldOn, fieldFor, kindFor, Asked, askedSubject, askedRight}
-use Rattle.client.specs.Commands.{errorFor, effectFor, askedOutcome}
+use Rattle.client.specs.Commands.{errorFor, effectFor, asksToRead, askedOutcome}
 use Rattle.stream.proofs.Bools.{differ, and-both}
 use Rattle.client.proofs.Tests.{usable-below}
 use Rattle.client.proofs.Commands.{about-back, subject-ping, subject-about}
@@ -213,3 +213,18 @@ module _ {P : Type 0} (access : Access P) (kind : ℕ) where
   field-obeyed x a h =
       let r = asked-right kind a h in
       rw (r .obeyed .effect (access .loaded (x .page)) (x .settings), r .obeyed .error (access .loaded (x .page)), r .code-right)
+
+-- A field that is written for Ping or function 2 asks for no function 1, 3, 4 or 5.
+pub field-reads : (kind : ℕ) (a : Asked) → asksToRead (askedSubject kind a) (a .function) ≡ true
+    → alters (subjectOf kind (fieldAs kind a .code)) (commandOf kind (fieldAs kind a)) ≡ false
+unfolding commandOf subjectOf
+field-reads kind a h = go (askedSubject kind a) refl h
+  where
+    go : (s : Subject) → subjectOf kind (a .code) ≡ s → asksToRead s (a .function) ≡ true
+        → alters (subjectOf kind (subjectField s (a .function) (a .value) .code)) (commandOf kind (subjectField s (a .function) (a .value))) ≡ false
+    go Ping e h = let k = subject-ping kind (a .code) e in rw (k .0)
+    go (About s) e h =
+        let k = subject-about kind (a .code) s e in
+        let two : a .function ≡ 2 = eqb-true (a .function) 2 h in
+        rw (k .0, two, about-back s)
+    go Unknown e h = differ (sym h)

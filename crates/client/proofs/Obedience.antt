@@ -7,7 +7,7 @@ use mathlib.Core.List.{List, [], _∷_, _++_, append-assoc, append-nil}
 use mathlib.Core.Option.{some}
 use lib.Dec.{eqb}
 use lib.ListN.{length, take, length-append}
-use borrow.Author.Tests.{ne-eqb, le-ltb}
+use borrow.Author.Tests.{ne-eqb, eqb-false, le-ltb}
 use Rattle.page.specs.declared.setting.Coded.{Coded}
 use Rattle.page.specs.declared.setting.Coded.the-variants.{Setting as Known, Nothing}
 use Rattle.page.specs.declared.setting.Stored.{Stored}
@@ -23,17 +23,19 @@ use Rattle.command.specs.declared.rights.Rights.{Rights}
 use Rattle.command.specs.declared.command.Subject.{Subject}
 use Rattle.command.specs.declared.command.Subject.the-variants.{Ping, Setting as About, Unknown}
 use Rattle.command.specs.Rights.{allRights}
-use Rattle.command.specs.Command.{commandsOf, subjectOf}
+use Rattle.command.specs.Command.{commandOf, commandsOf, subjectOf}
 use Rattle.command.specs.Errors.{mostFields, isKind, commandError}
 use Rattle.command.specs.Numbers.{numberedKind, numberOf, isFresh, numberError}
-use Rattle.command.specs.Outcome.{Access, State, thenOutcome, receivedOf, fieldsOutcome}
+use Rattle.command.specs.Outcome.{Access, State, Received, thenOutcome, receivedOf, fieldsOutcome}
 use Rattle.command.specs.Handle.{commandOutcome, marked, spent, numberedOutcome, messageOutcome}
+use Rattle.command.specs.Readonly.{noneAlters}
+use Rattle.command.proofs.Readonly.{reading-allowed}
 use Rattle.command.proofs.Separate.{known-kind, is-command}
 use Rattle.command.proofs.Places.{put-length, put-front}
 use Rattle.client.specs.Writer.{codeSubject, acceptable, fieldFor, kindFor, commandMessage, numberedPayload, numberedMessage, Asked, askedSubject, askedField, askedRight, fieldWriting}
-use Rattle.client.specs.Commands.{askedOutcome, askedOutcomes, askedFields, allRight, WrittenIsObeyed, NumberedIsObeyed, OneIsWritten, unlessRefused, appendAll, AppendedAreFields}
+use Rattle.client.specs.Commands.{asksToRead, askedOutcome, askedOutcomes, askedFields, allRight, allRead, WrittenIsObeyed, NumberedIsObeyed, OneIsWritten, unlessRefused, appendAll, AppendedAreFields}
 use Rattle.stream.proofs.Bools.{differ, and-both}
-use Rattle.client.proofs.Asked.{fieldAs, field-bytes, field-sized, field-most, asked-right, field-obeyed}
+use Rattle.client.proofs.Asked.{fieldAs, field-bytes, field-sized, field-most, asked-right, field-obeyed, field-reads}
 
 -- ---- several fields
 
@@ -80,6 +82,13 @@ module _ (kind : ℕ) where
       let s = fields-some asks h l in
       rw (s .0, ne-eqb (length (askedFields kind asks)) 0 (λ z. omega arith), fields-read asks h, fields-count asks, le-ltb 16 (length asks) m)
 
+  fields-reading : (asks : List Asked) → allRead kind asks ≡ true → noneAlters (commandsOf kind (fieldsAs kind asks)) ≡ true
+  unfolding commandOf
+  fields-reading [] h = refl
+  fields-reading (a ∷ asks) h =
+      let b = and-both (asksToRead (askedSubject kind a) (a .function)) (allRead kind asks) h in
+      rw (field-reads kind a (b .0), fields-reading asks (b .1))
+
 module _ {P : Type 0} (access : Access P) (kind : ℕ) where
   fields-obeyed : (x : State P) (asks : List Asked) → allRight kind asks ≡ true
       → fieldsOutcome access allRights x (commandsOf kind (fieldsAs kind asks)) ≡ askedOutcomes access kind x asks
@@ -104,14 +113,27 @@ unfolding receivedOf
 received-back kind payload l = let t : RoundTrip kind payload = written-is-read kind payload l in rw (t .kind-back, t .payload-back)
 
 pub written-is-obeyed : WrittenIsObeyed
-written-is-obeyed kind asks h l m =
-    let n : length (askedFields kind asks) ≤ 255 = omega (arith, fields-short kind asks m) in
-    let k : eqb kind numberedKind ≡ false = known-kind kind (fields-some kind asks h l .0) in
-    record {
-      whole = written-is-read kind (askedFields kind asks) n .whole;
-      outcome = λ P access x.
-          rw (received-back kind (askedFields kind asks) n) (is-command access allRights x kind (askedFields kind asks) k ∙ command-obeyed access kind x asks h l m);
-    }
+written-is-obeyed kind asks h l m = record { whole = written-is-read kind p n .whole; outcome = obeyed; reading = reading }
+  where
+    p : List ℕ
+    p = askedFields kind asks
+
+    n : length p ≤ 255
+    n = omega (arith, fields-short kind asks m)
+
+    k : isKind kind ≡ true
+    k = fields-some kind asks h l .0
+
+    obeyed : (P : Type 0) (access : Access P) (x : State P) → messageOutcome access allRights x (receivedOf true (messageOf kind p)) ≡ askedOutcomes access kind x asks
+    obeyed P access x = rw (received-back kind p n) (is-command access allRights x kind p (known-kind kind k) ∙ command-obeyed access kind x asks h l m)
+
+    reading : allRead kind asks ≡ true → (P : Type 0) (access : Access P) (rights : Rights) (x : State P)
+        → messageOutcome access rights x (receivedOf true (messageOf kind p)) ≡ askedOutcomes access kind x asks
+    reading r P access rights x =
+        let m : Received = record { good = true; kind = kind; payload = p } in
+        let e : messageOutcome access rights x m ≡ messageOutcome access allRights x m =
+        reading-allowed P access rights x m (eqb-false kind numberedKind (known-kind kind k)) (rw (fields-read kind asks h) (fields-reading kind asks r)) in
+        rw (received-back kind p n) e ∙ obeyed P access x
 
 -- ---- behind a number
 

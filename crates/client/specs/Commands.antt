@@ -59,15 +59,28 @@ abbrev pub allRight : ℕ → List Asked → Bool
 allRight kind [] = true
 allRight kind (a ∷ asks) = askedRight kind a && allRight kind asks
 
+-- Ping, or function 2 of a setting.
+abbrev pub asksToRead : Subject → ℕ → Bool
+asksToRead Ping function = true
+asksToRead (About s) function = eqb function 2
+asksToRead Unknown function = false
+
+abbrev pub allRead : ℕ → List Asked → Bool
+allRead kind [] = true
+allRead kind (a ∷ asks) = asksToRead (askedSubject kind a) (a .function) && allRead kind asks
+
 -- ---- what is written is obeyed
 
 -- A message of 1 to 16 such fields is whole. With all rights (port 1 of the full profile) it is handled without error, but for function 4
 -- on a page that holds a value that is not usable on this board, with exactly their effects in order, whatever the settings and the page.
--- (On port 0 it is the same as long as the page has no number: `WithoutNumber` in crate command.)
+-- (On port 0 it is the same as long as the page has no number: `WithoutNumber` in crate command.) Where all that it asks for is Ping and
+-- function 2, so under any rights.
 pub record Obeyed (kind : ℕ) (asks : List Asked) : Type 1 where
   pub whole : wholeNumber (messageOf kind (askedFields kind asks)) ≡ 0
   pub outcome : (P : Type 0) (access : Access P) (x : State P)
       → messageOutcome access allRights x (receivedOf true (messageOf kind (askedFields kind asks))) ≡ askedOutcomes access kind x asks
+  pub reading : allRead kind asks ≡ true → (P : Type 0) (access : Access P) (rights : Rights) (x : State P)
+      → messageOutcome access rights x (receivedOf true (messageOf kind (askedFields kind asks))) ≡ askedOutcomes access kind x asks
 
 -- Proof: Obedience `written-is-obeyed`.
 abbrev pub WrittenIsObeyed : Type 1

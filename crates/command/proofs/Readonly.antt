@@ -22,9 +22,9 @@ use Rattle.command.specs.Command.{commandsOf, subjectOf}
 use Rattle.command.specs.Errors.{isUnknown, isFunction, sizeRight, valueRight, alters, fieldWrong, notOnBoard, fieldError, commandError}
 use Rattle.command.specs.Effects.{Effect, fieldEffect, effectOn}
 use Rattle.command.specs.Numbers.{numberedKind, numberError}
-use Rattle.command.specs.Outcome.{Access, State, thenOutcome, denialOf, fieldOutcome, fieldsOutcome}
+use Rattle.command.specs.Outcome.{Access, State, thenOutcome, denialOf, fieldWith, fieldOutcome, fieldsOutcome}
 use Rattle.command.specs.Handle.{fieldsIn, commandOn, commandOutcome, numberedOutcome, messageOutcome}
-use Rattle.command.specs.Readonly.{Leaves, ReadOnlyLeaves, FieldsReadOnly, noneAlters, MessagesReadOnly}
+use Rattle.command.specs.Readonly.{Leaves, ReadOnlyLeaves, FieldsReadOnly, MessagesReadOnly, noneAlters, ReadingAllowed}
 
 -- ---- one field
 
@@ -113,17 +113,6 @@ fields-read-only P access x c =
     known (About s) a = refl
     known Unknown a = differ (sym a)
 
--- Fields that do not ask for them are answered as with all rights.
-fields-reading : {P : Type 0} (access : Access P) (x : State P) (cs : List Command) → noneAlters cs ≡ true
-    → fieldsOutcome access readOnlyRights x cs ≡ fieldsOutcome access allRights x cs
-unfolding fieldsOutcome
-fields-reading access x [] e = refl
-fields-reading {P = P} access x (c ∷ cs) e =
-    let b = and-both (not (alters (subjectOf (c .kind) (c .code)) c)) (noneAlters cs) e in
-    let f = fields-read-only P access x c .other (not-true (alters (subjectOf (c .kind) (c .code)) c) (b .0)) in
-    let o = fieldOutcome access allRights x c in
-    rw f (ap (thenOutcome o) (fields-reading access (o .next) cs (b .1)))
-
 pub messages-read-only : MessagesReadOnly
 unfolding messageOutcome numberedOutcome numberError commandOutcome
 messages-read-only P access x m =
@@ -131,14 +120,39 @@ messages-read-only P access x m =
       numbered = λ g k. rw (g, eq-eqb (m .kind) numberedKind k);
       damaged = λ g. rw g;
       refused = λ n e. rw (ne-eqb (m .kind) numberedKind n) (ap (cond (not (m .good)) _) (go (commandError (m .kind) (m .payload)) e));
-      reading = λ n e. rw (ne-eqb (m .kind) numberedKind n) (ap (cond (not (m .good)) _) (reads (commandError (m .kind) (m .payload)) e));
     }
   where
-    reads : (n : ℕ) → noneAlters (commandsOf (m .kind) (fieldsIn (fieldsOf (m .payload)))) ≡ true
-        → commandOn access n readOnlyRights x (m .kind) (m .payload) ≡ commandOn access n allRights x (m .kind) (m .payload)
-    reads zero e = fields-reading access x (commandsOf (m .kind) (fieldsIn (fieldsOf (m .payload)))) e
-    reads (suc n) e = refl
-
     go : (e : ℕ) → (e ≡ 0 → ⊥) → commandOn access e readOnlyRights x (m .kind) (m .payload) ≡ commandOn access e allRights x (m .kind) (m .payload)
     go zero n = absurd (n refl)
     go (suc e) n = refl
+
+-- ---- what is denied nowhere
+
+module _ {P : Type 0} (access : Access P) (rights : Rights) where
+  -- A field that does not ask for functions 1, 3, 4 and 5.
+  field-reading : (x : State P) (c : Command) → alters (subjectOf (c .kind) (c .code)) c ≡ false
+      → fieldOutcome access rights x c ≡ fieldOutcome access allRights x c
+  unfolding fieldOutcome fieldError
+  field-reading x c a = go (denialOf access rights (x .page))
+    where
+      go : (d : ℕ) → fieldWith access d x c ≡ fieldWith access 0 x c
+      go zero = refl
+      go (suc d) = rw a
+
+  fields-reading : (x : State P) (cs : List Command) → noneAlters cs ≡ true → fieldsOutcome access rights x cs ≡ fieldsOutcome access allRights x cs
+  unfolding fieldsOutcome
+  fields-reading x [] e = refl
+  fields-reading x (c ∷ cs) e =
+      let b = and-both (not (alters (subjectOf (c .kind) (c .code)) c)) (noneAlters cs) e in
+      let f = field-reading x c (not-true (alters (subjectOf (c .kind) (c .code)) c) (b .0)) in
+      let o = fieldOutcome access allRights x c in
+      rw f (ap (thenOutcome o) (fields-reading (o .next) cs (b .1)))
+
+pub reading-allowed : ReadingAllowed
+unfolding messageOutcome commandOutcome
+reading-allowed P access rights x m n e =
+    rw (ne-eqb (m .kind) numberedKind n) (ap (cond (not (m .good)) _) (go (commandError (m .kind) (m .payload))))
+  where
+    go : (n : ℕ) → commandOn access n rights x (m .kind) (m .payload) ≡ commandOn access n allRights x (m .kind) (m .payload)
+    go zero = fields-reading access rights x (commandsOf (m .kind) (fieldsIn (fieldsOf (m .payload)))) e
+    go (suc n) = refl

@@ -6,6 +6,7 @@ use mathlib.Core.List.{List, [], _∷_}
 use lib.ListN.{getD}
 use Rattle.message.specs.Fields.{fieldsOf}
 use Rattle.command.specs.declared.command.Command.{Command}
+use Rattle.command.specs.declared.rights.Rights.{Rights}
 use Rattle.command.specs.Rights.{allRights, readOnlyRights}
 use Rattle.command.specs.Command.{commandsOf, subjectOf}
 use Rattle.command.specs.Errors.{isUnknown, alters, commandError}
@@ -34,20 +35,25 @@ pub record FieldReadOnly {P : Type 0} (access : Access P) (x : State P) (c : Com
 abbrev pub FieldsReadOnly : Type 1
 FieldsReadOnly = (P : Type 0) (access : Access P) (x : State P) (c : Command) → FieldReadOnly access x c
 
+-- One message. "Any 7C with right sums gets it at once, its number unspent": one row. A message that is damaged or that is refused as a
+-- whole is answered as with all rights.
+pub record MessageReadOnly {P : Type 0} (access : Access P) (x : State P) (m : Received) : Type 0 where
+  pub numbered : m .good ≡ true → m .kind ≡ numberedKind → messageOutcome access readOnlyRights x m ≡ refusedOutcome (getD (innerPayload (m .payload)) 0 0) 7 x
+  pub damaged : m .good ≡ false → messageOutcome access readOnlyRights x m ≡ messageOutcome access allRights x m
+  pub refused : (m .kind ≡ numberedKind → ⊥) → (commandError (m .kind) (m .payload) ≡ 0 → ⊥) → messageOutcome access readOnlyRights x m ≡ messageOutcome access allRights x m
+
+-- Proof: Readonly `messages-read-only`.
+abbrev pub MessagesReadOnly : Type 1
+MessagesReadOnly = (P : Type 0) (access : Access P) (x : State P) (m : Received) → MessageReadOnly access x m
+
 -- None of some fields asks for function 1, 3, 4 or 5.
 abbrev pub noneAlters : List Command → Bool
 noneAlters [] = true
 noneAlters (c ∷ cs) = not (alters (subjectOf (c .kind) (c .code)) c) && noneAlters cs
 
--- One message. "Any 7C with right sums gets it at once, its number unspent": one row. A message that is damaged, that is refused as a
--- whole, or none of whose fields asks for function 1, 3, 4 or 5 is answered as with all rights.
-pub record MessageReadOnly {P : Type 0} (access : Access P) (x : State P) (m : Received) : Type 0 where
-  pub numbered : m .good ≡ true → m .kind ≡ numberedKind → messageOutcome access readOnlyRights x m ≡ refusedOutcome (getD (innerPayload (m .payload)) 0 0) 7 x
-  pub damaged : m .good ≡ false → messageOutcome access readOnlyRights x m ≡ messageOutcome access allRights x m
-  pub refused : (m .kind ≡ numberedKind → ⊥) → (commandError (m .kind) (m .payload) ≡ 0 → ⊥) → messageOutcome access readOnlyRights x m ≡ messageOutcome access allRights x m
-  pub reading : (m .kind ≡ numberedKind → ⊥) → noneAlters (commandsOf (m .kind) (fieldsIn (fieldsOf (m .payload)))) ≡ true
-      → messageOutcome access readOnlyRights x m ≡ messageOutcome access allRights x m
-
--- Proof: Readonly `messages-read-only`.
-abbrev pub MessagesReadOnly : Type 1
-MessagesReadOnly = (P : Type 0) (access : Access P) (x : State P) (m : Received) → MessageReadOnly access x m
+-- A message whose fields are so is answered under any rights as with all: a read-only port may use Ping and function 2, and so may port 0
+-- once the page keeps a number. Proof: Readonly `reading-allowed`.
+abbrev pub ReadingAllowed : Type 1
+ReadingAllowed =
+    (P : Type 0) (access : Access P) (rights : Rights) (x : State P) (m : Received) → (m .kind ≡ numberedKind → ⊥)
+    → noneAlters (commandsOf (m .kind) (fieldsIn (fieldsOf (m .payload)))) ≡ true → messageOutcome access rights x m ≡ messageOutcome access allRights x m

@@ -2,10 +2,11 @@
 use Prim.Native.Nat.{ℕ, _≤_}
 use native.Mathlib.Omega.{arith}
 use mathlib.Core.Path.{_≡_, refl, ap, sym, _∙_}
-use mathlib.Core.Bool.{Bool, true, false, or-false}
+use mathlib.Core.Bool.{Bool, true, false, _||_, or-false, and-true}
 use mathlib.Core.List.{List, [], _∷_, append-nil}
+use lib.Dec.{eqb}
 use lib.ListN.{length}
-use borrow.Author.Tests.{le-ltb}
+use borrow.Author.Tests.{eqb-true, le-ltb}
 use Rattle.message.specs.Message.{messageOf}
 use Rattle.message.specs.Theorems.{RoundTrip}
 use Rattle.message.proofs.RoundTrips.{written-is-read}
@@ -21,8 +22,8 @@ use Rattle.command.specs.Outcome.{State, Outcome, Received, idle, thenOutcome, 
 use Rattle.command.specs.Handle.{marked, spent, messageOutcome}
 use Rattle.command.specs.Answer.{replyRoom, numberOn, pageAccess, Answering, answerWith, answering}
 use Rattle.command.proofs.Numbers.{without-number}
-use Rattle.client.specs.Writer.{codeSubject, kindFor, acceptable, numberedPayload, Asked}
-use Rattle.client.specs.Commands.{Obeyed, ObeyedNumbered, askedOutcome, askedOutcomes, askedFields, OneAsked}
+use Rattle.client.specs.Writer.{codeSubject, kindFor, acceptable, numberedPayload, Asked, askedSubject}
+use Rattle.client.specs.Commands.{Obeyed, ObeyedNumbered, askedOutcome, askedOutcomes, askedFields, asksToRead, allRead, OneAsked}
 use Rattle.client.proofs.Obedience.{fields-some, fields-short, written-is-obeyed, numbered-is-obeyed, subject-same, one-is-written}
 use Rattle.stream.proofs.Bools.{differ}
 use Rattle.board.specs.declared.board.Board.{Board}
@@ -30,7 +31,7 @@ use Rattle.board.specs.Profile.{rightsOf}
 use Rattle.board.specs.Feed.{feedOn, feedOf}
 use Rattle.board.specs.Alone.{Ready, answeredStep}
 use Rattle.board.proofs.Alone.{fed-alone}
-use Rattle.exchange.specs.Theorems.{stateOf, answeredWith, CallObeys, writtenOutcome, WriterObeyed, NumberedCallObeys, NumberedWriterObeyed}
+use Rattle.exchange.specs.Theorems.{stateOf, answeredWith, denialOn, CallObeys, writtenOutcome, WriterObeyed, NumberedCallObeys, NumberedWriterObeyed}
 
 not-a5 : (kind : ℕ) → isKind kind ≡ true → kind ≡ 0xA5 → ⊥
 not-a5 kind k e = differ (sym (rw e at k))
@@ -63,11 +64,22 @@ module _ (port : ℕ) (b : Board) (room page : List ℕ) (r : Ready port b room 
 
 pub call-obeys : CallObeys
 call-obeys port b room page kind asks r f h l n =
-    let p : List ℕ = askedFields kind asks in
-    let s : length p ≤ 255 = omega (arith, fields-short kind asks n) in
-    let o : Obeyed kind asks = written-is-obeyed kind asks h l n in
-    answered port b room page r kind p (not-a5 kind (fields-some kind asks h l .0)) s (askedOutcomes pageAccess kind (stateOf b page) asks)
-    (undenied (rightsOf (b .readonly) port) (stateOf b page) (receivedOf true (messageOf kind p)) f ∙ o .outcome (List ℕ) pageAccess (stateOf b page))
+    answered port b room page r kind p (not-a5 kind (fields-some kind asks h l .0)) (omega (arith, fields-short kind asks n)) (askedOutcomes pageAccess kind x asks)
+    (go (eqb (denialOn port b page) 0) refl f)
+  where
+    p : List ℕ
+    p = askedFields kind asks
+
+    x : State (List ℕ)
+    x = stateOf b page
+
+    o : Obeyed kind asks
+    o = written-is-obeyed kind asks h l n
+
+    go : (d : Bool) → eqb (denialOn port b page) 0 ≡ d → d || allRead kind asks ≡ true
+        → messageOutcome pageAccess (rightsOf (b .readonly) port) x (receivedOf true (messageOf kind p)) ≡ askedOutcomes pageAccess kind x asks
+    go true e f = undenied (rightsOf (b .readonly) port) x (receivedOf true (messageOf kind p)) (eqb-true (denialOn port b page) 0 e) ∙ o .outcome (List ℕ) pageAccess x
+    go false e f = o .reading f (List ℕ) pageAccess (rightsOf (b .readonly) port) x
 
 pub numbered-call-obeys : NumberedCallObeys
 numbered-call-obeys port b room page number kind asks r s allowed f h l n =
@@ -93,7 +105,9 @@ writer-obeyed port b room page code function value r f ok =
     let k : ℕ = kindFor (codeSubject code) in
     let a : Asked = record { code = code; function = function; value = value } in
     let w : OneAsked code function value = one-is-written code function value ok in
-    let c = call-obeys port b room page k (a ∷ []) r f (w .right) (omega arith) (omega arith) in
+    let e : askedSubject k a ≡ codeSubject code = subject-same code (codeSubject code) function value refl ok in
+    let g : eqb (denialOn port b page) 0 || allRead k (a ∷ []) ≡ true = rw (e, and-true (asksToRead (codeSubject code) function)) f in
+    let c = call-obeys port b room page k (a ∷ []) r g (w .right) (omega arith) (omega arith) in
     rw (w .written) (c ∙ ap (answeredWith port b room k (messageOf k (askedFields k (a ∷ [])))) (one-outcome (stateOf b page) code function value ok))
 
 pub numbered-writer-obeyed : NumberedWriterObeyed

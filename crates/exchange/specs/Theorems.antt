@@ -1,9 +1,10 @@
 -- What is proved of the command writer and the board together. Each statement names its proof, a term of that type in a file of
 -- proofs/.
-use mathlib.Core.Bool.{true, false}
+use mathlib.Core.Bool.{Bool, true, false, _||_}
 use mathlib.Core.List.{List}
 use mathlib.Core.Path.{_≡_}
 use Prim.Native.Nat.{ℕ, _≤_, _<_}
+use lib.Dec.{eqb}
 use lib.ListN.{length}
 use Rattle.message.specs.Message.{messageOf}
 use Rattle.command.specs.Errors.{mostFields}
@@ -12,7 +13,7 @@ use Rattle.command.specs.Outcome.{State, Outcome, rowOutcome, effectOutcome, de
 use Rattle.command.specs.Handle.{marked, spent}
 use Rattle.command.specs.Answer.{loadedFrom, savedOn, numberOn, pageAccess, answerWith}
 use Rattle.client.specs.Writer.{codeSubject, kindFor, acceptable, commandMessage, numberedPayload, numberedMessage, Asked}
-use Rattle.client.specs.Commands.{errorFor, effectFor, askedOutcomes, askedFields, allRight}
+use Rattle.client.specs.Commands.{errorFor, effectFor, askedOutcomes, askedFields, allRight, asksToRead, allRead}
 use Rattle.board.specs.declared.board.Board.{Board}
 use Rattle.board.specs.Profile.{rightsOf}
 use Rattle.board.specs.Feed.{Feeding, feedOn, feedOf}
@@ -26,14 +27,18 @@ stateOf b page = record { settings = b .settings; page = page }
 abbrev pub answeredWith : ℕ → Board → List ℕ → ℕ → List ℕ → Outcome (List ℕ) → Feeding
 answeredWith port b room kind m o = feedOn (answeredStep m (answerWith kind o room)) port b
 
+-- What functions 1, 3, 4 and 5 are denied with on a port of a board.
+abbrev pub denialOn : ℕ → Board → List ℕ → ℕ
+denialOn port b page = denialOf pageAccess (rightsOf (b .readonly) port) page
+
 -- A message of 1 to 16 fields, each written for what the board accepts, and fed to a port that holds nothing, is answered at once: without
 -- error, but for function 4 on a page that holds a value that is not usable on this board (6), and with exactly the effects that are
--- asked for, in order. On port 0 as long as the page has no number, on port 1 in the full
--- profile. Proof: Calls `call-obeys`.
+-- asked for, in order. On port 0 as long as the page has no number, on port 1 in the full profile; Ping and function 2 everywhere.
+-- Proof: Calls `call-obeys`.
 abbrev pub CallObeys : Type 0
 CallObeys =
     (port : ℕ) (b : Board) (room page : List ℕ) (kind : ℕ) (asks : List Asked) → Ready port b room page
-    → denialOf pageAccess (rightsOf (b .readonly) port) page ≡ 0 → allRight kind asks ≡ true → 1 ≤ length asks → length asks ≤ mostFields
+    → eqb (denialOn port b page) 0 || allRead kind asks ≡ true → allRight kind asks ≡ true → 1 ≤ length asks → length asks ≤ mostFields
     → feedOf port b (messageOf kind (askedFields kind asks)) room page
     ≡ answeredWith port b room kind (messageOf kind (askedFields kind asks)) (askedOutcomes pageAccess kind (stateOf b page) asks)
 
@@ -46,7 +51,7 @@ writtenOutcome x code function value =
 abbrev pub WriterObeyed : Type 0
 WriterObeyed =
     (port : ℕ) (b : Board) (room page : List ℕ) (code function value : ℕ) → Ready port b room page
-    → denialOf pageAccess (rightsOf (b .readonly) port) page ≡ 0 → acceptable (codeSubject code) function value ≡ true
+    → eqb (denialOn port b page) 0 || asksToRead (codeSubject code) function ≡ true → acceptable (codeSubject code) function value ≡ true
     → feedOf port b (commandMessage code function value) room page
     ≡ answeredWith port b room (kindFor (codeSubject code)) (commandMessage code function value) (writtenOutcome (stateOf b page) code function value)
 
