@@ -38,9 +38,10 @@ enum {
  * the board keeps it, and no other call changes it. The page does not keep it: a board that starts anew, as after a power cut, is
  * told it again.
  * Full: either port may use every function (on port 0 with a number, once the page keeps one: see ketphiroj_feed_in_place).
- * Read-only: port 1 may use Ping and function 2 only; port 0 is as in the full profile. Functions 1, 3, 4 and 5 on port 1 are answered with
- * error 7, field by field: an unknown code is 3 before that, and what would be 4 or 6 of a field's own comes after it. A numbered
- * command with right sums on port 1 gets one row with error 7, whatever stands in it, and its number is not spent.
+ * Read-only: port 1 may use Ping and function 2 only; port 0 is as in the full profile. Functions 1, 3, 4 and 5 on port 1 are answered
+ * with error 7, field by field: an unknown code is 3 before that, and what would be 4 or 6 of a field's own comes after it. A message
+ * whose fields are not reached is answered as on any port (1, 2, 3 without a payload, 4). But a numbered command with right sums gets
+ * one row with error 7 on port 1, whatever stands in it, and its number is not spent.
  * What is promised of a read-only board: whatever comes on port 1, in feeds and silences of any number, port 0 does not see it. Of
  * each call of port 0 the answer, the reply, what port 0 then holds, the working settings and the page are the same as with anything
  * else on port 1, or nothing. That is proved, of every list of calls, refused ones included.
@@ -166,12 +167,12 @@ ketphiroj_stepped ketphiroj_call_in_place(
  *    settings are those given.
  *
  * Numbered commands. A message of type 0x7C is a command with a number in front: its payload is the number (4 bytes, big-endian),
- * the type 0x01 or 0x02, and the fields. Either port takes it, but not port 1 of a read-only board. The number is fresh where it is larger than the one that the page
- * keeps, or where the page keeps none. A fresh number is written to the page, then the command is handled; the number is spent
- * even where the command is answered with an error. One that is not fresh is answered with error 5, and nothing changes. Once the
- * page keeps a number, port 0 answers functions 1, 3, 4 and 5 without a number with error 5; Ping and function 2 go on, and port 1
- * takes all of them. After 4294967295 no number is fresh until the page is erased. Port 1 of a read-only board takes no numbered
- * command at all: each with right sums is answered with error 7, fresh or not, and the number is not spent.
+ * the type 0x01 or 0x02, and the fields. Port 0 takes it, and in the full profile port 1. The number is fresh where it is larger than
+ * the one that the page keeps, or where the page keeps none. A fresh number is written to the page, then the command is handled; the
+ * number is spent even where the command is answered with an error. One that is not fresh is answered with error 5, and nothing
+ * changes. Once the page keeps a number, port 0 answers functions 1, 3, 4 and 5 without a number with error 5; Ping and function 2 go
+ * on, and in the full profile port 1 takes all of them. After 4294967295 no number is fresh until the page is erased. On port 1 of a
+ * read-only board each numbered command with right sums is answered with error 7, fresh or not, and the number is not spent.
  * So no number is accepted twice over one page, however often a board is started on it. For this to hold over a power cut the
  * driver must, with feeds and with silences,
  *   - store the page where `saved`, and only then act on the answer: send the reply, and put the answered settings to use. A number

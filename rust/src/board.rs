@@ -49,13 +49,14 @@ pub struct Settings {
 /// not keep it: a board that starts anew, as after a power cut, is told it again.
 #[derive(Clone, Copy, Debug, PartialEq, Eq, Hash)]
 pub enum Profile {
-    /// Either port may do everything.
+    /// Either port may use every function: port 0 with a number, once the page keeps one, and port 1 with or without.
     Full,
-    /// Port 1 may use Ping and function 2 only, and port 0 everything.
+    /// Port 1 may use Ping and function 2 only, and port 0 what it may in the full profile.
     ///
     /// Functions 1, 3, 4 and 5 on port 1 are answered with error 7, not allowed on this port, field by field: an unknown code is
-    /// 3 before that, and what would be 4 or 6 of a field's own comes after it. Every numbered command with right sums on port 1
-    /// gets one row with error 7, whatever stands in it, and its number is not spent.
+    /// 3 before that, and what would be 4 or 6 of a field's own comes after it. A message whose fields are not reached is answered
+    /// as on any port (1, 2, 3 without a payload, 4). But every numbered command with right sums gets one row with error 7 on
+    /// port 1, whatever stands in it, and its number is not spent.
     ///
     /// What is promised: whatever comes on port 1, in feeds and silences of any number, between those of port 0 or without
     /// them, port 0 does not see it. Of each call of port 0 the outcome, the reply, what port 0 then holds, the working

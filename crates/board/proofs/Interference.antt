@@ -11,7 +11,7 @@ use Rattle.stream.specs.declared.Sought.the-variants.{Starved, Found}
 use Rattle.history.specs.Calls.{Input, chunkOf, Step, State}
 use Rattle.history.specs.Calls.{Call as CallOf}
 use Rattle.history.specs.Program.{soughtBy, heldStep}
-use Rattle.history.specs.Interference.{onlyIf, firstCalls, seenFrom}
+use Rattle.history.specs.Interference.{onlyIf, portZeroCalls, seenFrom}
 use Rattle.history.specs.Interference.{Seen as SeenOf}
 use Rattle.history.proofs.Interference as history
 use Rattle.message.specs.Front.{front, mostUndecided}
@@ -124,7 +124,7 @@ seen-followed (c ∷ cs) b page k =
     ∙ ap (λ (t : State (List ℕ) Kept). allSeen (seenFrom (programStep (b .readonly)) t (toldOf cs))) (sym (s .state)) in
     only-seen (eqb (c .port) 0) (seenOf f) _ _ _ (one-seen b c f one s) rest
 
-fresh-unseen : (w : Settings) (page : List ℕ) (cs cs′ : List Call) → firstCalls (toldOf cs) ≡ firstCalls (toldOf cs′)
+fresh-unseen : (w : Settings) (page : List ℕ) (cs cs′ : List Call) → portZeroCalls (toldOf cs) ≡ portZeroCalls (toldOf cs′)
     → seenBy cs (callsFrom (freshBoard readOnly w) page cs .feedings) ≡ seenBy cs′ (callsFrom (freshBoard readOnly w) page cs′ .feedings)
 fresh-unseen w page cs cs′ e =
     seen-followed cs (freshBoard readOnly w) page (fresh-padded readOnly w)

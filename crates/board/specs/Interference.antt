@@ -6,7 +6,7 @@ use mathlib.Core.Path.{_≡_}
 use Prim.Native.Nat.{ℕ, suc}
 use lib.Dec.{eqb}
 use Rattle.history.specs.Calls.{Input}
-use Rattle.history.specs.Interference.{onlyIf, firstCalls}
+use Rattle.history.specs.Interference.{onlyIf, portZeroCalls}
 use Rattle.command.specs.declared.settings.Settings.{Settings}
 use Rattle.board.specs.declared.board.Board.{Board}
 use Rattle.board.specs.Profile.{readOnly}
@@ -68,8 +68,8 @@ abbrev pub seenOn : List ℕ → List Call → List Seen
 seenOn page cs = seenBy cs (callsFrom (startOf readOnly page .board) page cs .feedings)
 
 -- "Take two runs from one start in this profile, with the same feeds, silences and room lengths on port 0, and anything at all on port 1.
--- After each call of port 0, matched in order," it sees the same. `firstCalls` are the calls of port 0, `toldOf` keeps of a room its
+-- After each call of port 0, matched in order," it sees the same. `portZeroCalls` are the calls of port 0, `toldOf` keeps of a room its
 -- length. Of demand 3's premises none is needed: the silences may be undrained, and the start a refused one. Proof: Interference
 -- `no-interference`.
 abbrev pub NoInterference : Type 0
-NoInterference = (page : List ℕ) (cs cs′ : List Call) → firstCalls (toldOf cs) ≡ firstCalls (toldOf cs′) → seenOn page cs ≡ seenOn page cs′
+NoInterference = (page : List ℕ) (cs cs′ : List Call) → portZeroCalls (toldOf cs) ≡ portZeroCalls (toldOf cs′) → seenOn page cs ≡ seenOn page cs′

@@ -6,7 +6,7 @@ use mathlib.Core.Path.{_≡_}
 use Prim.Native.Nat.{ℕ}
 use lib.ListN.{replicate}
 use Rattle.history.specs.Calls.{fed, silent}
-use Rattle.history.specs.Interference.{firstCalls}
+use Rattle.history.specs.Interference.{portZeroCalls}
 use Rattle.history.specs.Restarts.{restart}
 use Rattle.message.specs.Message.{messageOf}
 use Rattle.page.specs.Page.{filled, blankPage}
@@ -103,6 +103,6 @@ seenThere =
 -- Sampled `readonly-lines`.
 pub record ReadonlyLines : Type 0 where
   pub lines : linesFor readOnly readonlyExamples ≡ readonlyExamples
-  pub same-calls : firstCalls (toldOf hostile) ≡ firstCalls (toldOf harmless)
+  pub same-calls : portZeroCalls (toldOf hostile) ≡ portZeroCalls (toldOf harmless)
   pub seen : seenOn blankPage hostile ≡ seenThere
   pub seen-alike : seenOn blankPage harmless ≡ seenThere

@@ -21,7 +21,7 @@ pub extern "C" fn ketphiroj_start(readonly: bool, page: &[u8]) -> Started
 
 // Starts a board that the caller keeps, without a copy of it: `first` and `second` are the 260 bytes of its ports, which are cleared;
 // both hold nothing then. The answer has the settings that the page keeps, and the profile that was asked for; number 0. With 19 (not 64
-// bytes) or 20 (neither blank nor sound) they are the factory's, and the ports are cleared all the same, as in the board of
+// bytes) or 20 (neither blank nor sound) the settings are the factory's, and the ports are cleared all the same, as in the board of
 // ketphiroj_start. 17: an array is not 260 bytes; nothing is written then.
 #[no_mangle]
 pub extern "C" fn ketphiroj_start_in_place(

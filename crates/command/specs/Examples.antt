@@ -100,7 +100,7 @@ examples =
       settings = baud 9600;
       values = kept (Value 9600) 10;
     }
-    -- and on port 1, as before
+    -- and with all rights
     ∷ record {
       rights = allRights;
       message = unnumbered;

@@ -77,8 +77,7 @@ WithoutNumber =
     → messageOutcome pageAccess guardedRights x m ≡ messageOutcome pageAccess allRights x m
 
 -- Once the page keeps a number, nothing changes where one is needed (on port 0) without a fresh one: neither a working value nor the
--- page, whatever the
--- message. Proof: Numbers `number-guards`.
+-- page, whatever the message. Proof: Numbers `number-guards`.
 pub record Unchanged (x : State (List ℕ)) (m : Received) : Type 0 where
   pub next : messageOutcome pageAccess guardedRights x m .next ≡ x
   pub unmarked : messageOutcome pageAccess guardedRights x m .saved ≡ false

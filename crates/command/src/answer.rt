@@ -238,9 +238,8 @@ fn answer_opened(
     )
 }
 
-// Answers the message at the front of `held` and then `chunk`, which has these rights on its port. The
-// settings, the room and the page are
-// taken as they are: a feed has tested them. In a room under 166 bytes nothing is done. A message that is damaged, or of a type
+// Answers the message at the front of `held` and then `chunk`, which has these rights on its port. The settings, the room and the page
+// are taken as they are: a feed has tested them. In a room under 166 bytes nothing is done. A message that is damaged, or of a type
 // other than 01, 02 and 7C, is answered by its type and first payload byte alone, so that noise and data messages are answered
 // without a look at the rest.
 pub fn answer_over(

@@ -16,7 +16,7 @@ use Rattle.stream.specs.Cutting.{Cutting}
 use Rattle.history.specs.Calls.{Input, chunkOf, Call, Step, refuse, State, accept}
 use Rattle.history.specs.Reckoning.{Outcome}
 use Rattle.history.specs.Program.{Tests, soughtBy, heldOn, heldCall, heldStep}
-use Rattle.history.specs.Interference.{Seen, firstCalls, seenFrom, ReadsOnly, NoInterference}
+use Rattle.history.specs.Interference.{Seen, portZeroCalls, seenFrom, ReadsOnly, NoInterference}
 use Rattle.history.proofs.Demand.{handles-same}
 use Rattle.history.proofs.Sound.{call-fine}
 
@@ -48,12 +48,12 @@ module _ {front : List ℕ → Verdict} {mostHeld : ℕ} (C : Cutting front most
     -- What is proved of the rest of a list: port 0 sees what it would without the calls of port 1, whatever port 1 holds.
     abbrev Same : List Call → Type 0
     Same cs = (h x y : List ℕ) (w : W) → length x ≤ mostHeld → length y ≤ mostHeld
-        → seenFrom step (state h x w) cs ≡ seenFrom step (state h y w) (firstCalls cs)
+        → seenFrom step (state h x w) cs ≡ seenFrom step (state h y w) (portZeroCalls cs)
 
     -- A call of port 0.
     first-same : (h x y : List ℕ) (w : W) (i : Input) (n : ℕ) (cs : List Call) → length x ≤ mostHeld → length y ≤ mostHeld → Same cs
         → seenFrom step (state h x w) (record { port = 0; input = i; room = n } ∷ cs)
-        ≡ seenFrom step (state h y w) (record { port = 0; input = i; room = n } ∷ firstCalls cs)
+        ≡ seenFrom step (state h y w) (record { port = 0; input = i; room = n } ∷ portZeroCalls cs)
     unfolding seenFrom heldStep
     first-same h x y w i n cs few few′ rest =
         rw (le-ltb mostHeld (length x) few, le-ltb mostHeld (length y) few′)
@@ -73,7 +73,7 @@ module _ {front : List ℕ → Verdict} {mostHeld : ℕ} (C : Cutting front most
 
         go : (a u r l k : Bool)
             → seenThen c (done x a u r l k) (seenFrom step (done x a u r l k .state) cs)
-            ≡ seenThen c (done y a u r l k) (seenFrom step (done y a u r l k .state) (firstCalls cs))
+            ≡ seenThen c (done y a u r l k) (seenFrom step (done y a u r l k .state) (portZeroCalls cs))
         go true u r l k = cc (rest h x y w few few′)
         go false true r l k = cc (rest h x y w few few′)
         go false false true l k = cc (rest h x y w few few′)
@@ -84,7 +84,7 @@ module _ {front : List ℕ → Verdict} {mostHeld : ℕ} (C : Cutting front most
 
     -- A call of port 1.
     second-same : (h x y : List ℕ) (w : W) (i : Input) (n : ℕ) (cs : List Call) → length x ≤ mostHeld → length y ≤ mostHeld → Same cs
-        → seenFrom step (step (state h x w) (record { port = 1; input = i; room = n }) .state) cs ≡ seenFrom step (state h y w) (firstCalls cs)
+        → seenFrom step (step (state h x w) (record { port = 1; input = i; room = n }) .state) cs ≡ seenFrom step (state h y w) (portZeroCalls cs)
     unfolding heldStep
     second-same h x y w i n cs few few′ rest =
         go (ltb 1 1) (ltb mostHeld (length h) || ltb mostHeld (length x) || tests w .unusable) (ltb n room) (tests w .wrongLength) (tests w .unsound)
@@ -98,7 +98,7 @@ module _ {front : List ℕ → Verdict} {mostHeld : ℕ} (C : Cutting front most
             (refuse k 20 (state h x w)
             (accept 1 (state h x w) (heldCall front handle 1 x w i))))))
 
-        go : (a u r l k : Bool) → seenFrom step (done a u r l k .state) cs ≡ seenFrom step (state h y w) (firstCalls cs)
+        go : (a u r l k : Bool) → seenFrom step (done a u r l k .state) cs ≡ seenFrom step (state h y w) (portZeroCalls cs)
         go true u r l k = rest h x y w few few′
         go false true r l k = rest h x y w few few′
         go false false true l k = rest h x y w few few′
@@ -119,14 +119,14 @@ module _ {front : List ℕ → Verdict} {mostHeld : ℕ} (C : Cutting front most
       where
         by-port : (p : ℕ) (i : Input) (n : ℕ) → Same cs
             → seenFrom step (state h x w) (record { port = p; input = i; room = n } ∷ cs)
-            ≡ seenFrom step (state h y w) (firstCalls (record { port = p; input = i; room = n } ∷ cs))
+            ≡ seenFrom step (state h y w) (portZeroCalls (record { port = p; input = i; room = n } ∷ cs))
         by-port zero i n rest = first-same h x y w i n cs few few′ rest
         by-port (suc zero) i n rest = second-same h x y w i n cs few few′ rest
         by-port (suc (suc p)) i n rest =
             rw (other-same p (state h x w) i n, ne-eqb (suc (suc p)) 0 (λ e. absurd (omega (arith, e)))) (rest h x y w few few′)
 
     -- The row is that of the list without the calls of port 1.
-    alone : (w : W) (cs : List Call) → seenFrom step (state [] [] w) cs ≡ seenFrom step (state [] [] w) (firstCalls cs)
+    alone : (w : W) (cs : List Call) → seenFrom step (state [] [] w) cs ≡ seenFrom step (state [] [] w) (portZeroCalls cs)
     alone w cs = same cs [] [] [] w (omega arith) (omega arith)
 
 module _ (front : List ℕ → Verdict) (mostHeld room : ℕ) {W : Type 0} (tests : W → Tests) (handle : ℕ → W → Message → Outcome W) where

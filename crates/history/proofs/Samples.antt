@@ -15,7 +15,7 @@ use Rattle.history.specs.Reckoning.{Outcome, shortest, handleNext, usedU
 use Rattle.history.specs.Program.{passing, heldOn, heldCall, heldStep, heldProgram}
 use Rattle.history.specs.Ports.{unfed, historyOf}
 use Rattle.history.specs.Drained.{drainedFrom, drained}
-use Rattle.history.specs.Interference.{firstCalls}
+use Rattle.history.specs.Interference.{portZeroCalls}
 use Rattle.history.specs.Restarts.{Act, call, restart, historyFrom, heldHistory, reckonedHistory}
 
 front : List ℕ → Verdict
@@ -70,7 +70,7 @@ unfolding feeds damaged good answers historyOf
 told = refl
 
 -- ---- The calls of port 0 in a list.
-first-only : firstCalls feeds
+first-only : portZeroCalls feeds
     ≡ record { port = 0; input = fed (9 ∷ 5 ∷ 3 ∷ 5 ∷ 0 ∷ 1 ∷ 0 ∷ 8 ∷ []); room = 1 }
     ∷ record { port = 0; input = fed (8 ∷ []); room = 1 }
     ∷ record { port = 0; input = fed (8 ∷ 5 ∷ []); room = 1 }

@@ -18,9 +18,9 @@ onlyIf true x xs = x ∷ xs
 onlyIf false x xs = xs
 
 -- The calls of a list that name port 0, in order.
-abbrev pub firstCalls : List Call → List Call
-firstCalls [] = []
-firstCalls (c ∷ cs) = onlyIf (eqb (c .port) 0) c (firstCalls cs)
+abbrev pub portZeroCalls : List Call → List Call
+portZeroCalls [] = []
+portZeroCalls (c ∷ cs) = onlyIf (eqb (c .port) 0) c (portZeroCalls cs)
 
 -- What port 0 sees after one of its calls: number, bytes taken, bytes skipped, save mark and reply; its held bytes; and the values,
 -- which are the working settings and the page.
@@ -48,4 +48,4 @@ module _ (front : List ℕ → Verdict) (mostHeld room : ℕ) {Stored : Type 0} 
   -- Two lists with the same calls of port 0, and anything at all on port 1 (or on no port): port 0 sees the same. The silences need not
   -- be drained, and what is stored need not pass the tests. Proof: Interference `no-interference`.
   abbrev pub NoInterference : Type 0
-  NoInterference = Cutting front mostHeld → ReadsOnly → (w : Stored) (cs cs′ : List Call) → firstCalls cs ≡ firstCalls cs′ → seen w cs ≡ seen w cs′
+  NoInterference = Cutting front mostHeld → ReadsOnly → (w : Stored) (cs cs′ : List Call) → portZeroCalls cs ≡ portZeroCalls cs′ → seen w cs ≡ seen w cs′
