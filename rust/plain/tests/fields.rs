@@ -3,27 +3,13 @@
 
 mod common;
 
-use common::{hex, page_of, Answer, Both};
+use common::{fed, hex, page_of, rows, Both};
 use plain::generate::{self, fields, Rng};
 use plain::*;
 
-/// Feeds one good message whole to port 0, which holds nothing.
-fn fed(both: &mut Both, bytes: &[u8]) -> Answer {
-    let answer = both.feed(0, bytes);
-    assert_eq!((answer.number, answer.taken, answer.skipped), (0, bytes.len(), 0));
-    assert_eq!(both.held(0), 0);
-    answer
-}
-
-/// Echo and error of each row of a reply.
-fn rows(reply: &[u8]) -> Vec<(u8, u8)> {
-    let rows = (0..).map(|row| read_reply(reply, row)).take_while(|row| row.number == 0);
-    rows.map(|row| (row.echo, row.error)).collect()
-}
-
 /// The rows of the reply to a payload of type 02, on a fresh board with a blank page.
 fn rows_of(payload: &str) -> Vec<(u8, u8)> {
-    rows(&fed(&mut Both::blank(), &message(0x02, &hex(payload))).reply)
+    rows(&fed(&mut Both::blank(), 0, &message(0x02, &hex(payload))).reply)
 }
 
 /// 02-02.1: "the controller wants to send three settings at a time". Set, saved, and loaded after a restart.
@@ -33,26 +19,26 @@ fn three_settings() {
     let save = hex("A5A50209 010103 070103 080103 710B");
     let done = hex("A5A5020C 80020100 80020700 80020800 EE21");
     let mut both = Both::blank();
-    let answer = fed(&mut both, &set);
+    let answer = fed(&mut both, 0, &set);
     assert_eq!((&answer.reply, answer.saved), (&done, false));
     let three = Settings { baud: 921600, accelerometer: 4, gyroscope: 5 };
     assert_eq!(both.board.settings, three);
     assert_eq!(both.page, [0xFF; 64]);
 
-    let answer = fed(&mut both, &save);
+    let answer = fed(&mut both, 0, &save);
     assert_eq!((&answer.reply, answer.saved), (&done, true));
     assert_eq!(both.page, page_of("03 010A04 070E01 080F01 000E1000 04 05"));
 
     // Starting loads them, and so does function 4 after others were set.
     let mut both = Both::new(&both.page);
     assert_eq!(both.board.settings, three);
-    fed(&mut both, &hex("A5A5020F 0105 0100002580 0702 0101 0802 0101 1EB9"));
+    fed(&mut both, 0, &hex("A5A5020F 0105 0100002580 0702 0101 0802 0101 1EB9"));
     assert_eq!(both.board.settings, Settings { baud: 9600, accelerometer: 1, gyroscope: 1 });
-    let answer = fed(&mut both, &hex("A5A50209 010104 070104 080104 7417"));
+    let answer = fed(&mut both, 0, &hex("A5A50209 010104 070104 080104 7417"));
     assert_eq!((&answer.reply, answer.saved), (&done, false));
     assert_eq!(both.board.settings, three);
 
-    let answer = fed(&mut both, &hex("A5A50209 010102 070102 080102 6EFF"));
+    let answer = fed(&mut both, 0, &hex("A5A50209 010102 070102 080102 6EFF"));
     assert_eq!(answer.reply, hex("A5A50218 80020100 0104000E1000 80020700 070104 80020800 080105 3741"));
 }
 
@@ -66,11 +52,11 @@ fn counts() {
             1..=16 => message(0x01, &hex("80020200").repeat(count)),
             _ => message(0x01, &hex("80020204")),
         };
-        assert_eq!(fed(&mut Both::blank(), &message(0x01, &payload)).reply, expected);
-        let more = fed(&mut Both::blank(), &message(0x01, &[&payload[..], &[0x02]].concat()));
+        assert_eq!(fed(&mut Both::blank(), 0, &message(0x01, &payload)).reply, expected);
+        let more = fed(&mut Both::blank(), 0, &message(0x01, &[&payload[..], &[0x02]].concat()));
         assert_eq!(more.reply, message(0x01, &hex("80020204")));
     }
-    assert_eq!(fed(&mut Both::blank(), &hex("A5A5010402000200 53D1")).reply, hex("A5A50108 80020200 80020200 5B49"));
+    assert_eq!(fed(&mut Both::blank(), 0, &hex("A5A5010402000200 53D1")).reply, hex("A5A50108 80020200 80020200 5B49"));
 }
 
 /// 17 fields change nothing, and neither the first nor the last of them saves.
@@ -78,14 +64,14 @@ fn counts() {
 fn seventeen_fields() {
     let used = hex("07020101");
     let mut both = Both::blank();
-    let answer = fed(&mut both, &message(0x02, &[used.repeat(15), hex("070103")].concat()));
+    let answer = fed(&mut both, 0, &message(0x02, &[used.repeat(15), hex("070103")].concat()));
     assert_eq!((rows(&answer.reply), answer.saved), (vec![(7, 0); 16], true));
     assert_eq!(both.board.settings.accelerometer, 1);
 
     let save = hex("080103");
     for payload in [[save.clone(), used.repeat(16)], [used.repeat(16), save]] {
         let mut both = Both::blank();
-        let answer = fed(&mut both, &message(0x02, &payload.concat()));
+        let answer = fed(&mut both, 0, &message(0x02, &payload.concat()));
         assert_eq!((rows(&answer.reply), answer.saved), (vec![(payload.concat()[0], 4)], false));
         assert_eq!((both.board.settings, &both.page[..]), (FACTORY, &[0xFF; 64][..]));
     }
@@ -112,13 +98,13 @@ fn unfilled() {
         let bytes = hex(payload);
         for kind in [0x01, 0x02] {
             let mut both = Both::blank();
-            let answer = fed(&mut both, &message(kind, &bytes));
+            let answer = fed(&mut both, 0, &message(kind, &bytes));
             assert_eq!(answer.reply, message(kind, &[0x80, 2, bytes[0], 4]), "{payload}");
             assert!(!answer.saved);
             assert_eq!((both.board.settings, &both.page[..]), (FACTORY, &[0xFF; 64][..]));
         }
         // The type is tested before, and the sums before it.
-        assert_eq!(rows(&fed(&mut Both::blank(), &message(0x03, &bytes)).reply), [(bytes[0], 2)]);
+        assert_eq!(rows(&fed(&mut Both::blank(), 0, &message(0x03, &bytes)).reply), [(bytes[0], 2)]);
         let mut damaged = message(0x02, &bytes);
         *damaged.last_mut().unwrap() ^= 1;
         assert_eq!(rows(&Both::blank().feed(0, &damaged).reply), [(bytes[0], 1)]);
@@ -138,7 +124,7 @@ fn fields_not_reached() {
     assert_eq!(answer.reply, message(0x02, &hex("80020701")));
     assert_eq!(both.board.settings, FACTORY);
     for kind in [0x00, 0x03, 0x7B, 0x80, 0xA2, 0xFF] {
-        let answer = fed(&mut Both::blank(), &message(kind, &payload));
+        let answer = fed(&mut Both::blank(), 0, &message(kind, &payload));
         assert_eq!((answer.reply, answer.saved), (message(kind, &hex("80020702")), false));
     }
 }
@@ -147,17 +133,17 @@ fn fields_not_reached() {
 #[test]
 fn errors_in_the_middle() {
     let mut both = Both::blank();
-    let answer = fed(&mut both, &message(0x02, &hex("07020103 0802 0108 6300 0200 0101 06 08020101 0700 010103")));
+    let answer = fed(&mut both, 0, &message(0x02, &hex("07020103 0802 0108 6300 0200 0101 06 08020101 0700 010103")));
     let expected = [(7, 0), (8, 4), (0x63, 3), (2, 3), (1, 4), (8, 0), (7, 4), (1, 0)];
     assert_eq!((&rows(&answer.reply)[..], answer.saved), (&expected[..], true));
     assert_eq!(both.board.settings, Settings { baud: 115200, accelerometer: 3, gyroscope: 1 });
     assert_eq!(both.page, page_of("01 010404 0001C200"));
 
-    let reported = fed(&mut Both::blank(), &hex("A5A50209 07020102 6300 070102 CEF7"));
+    let reported = fed(&mut Both::blank(), 0, &hex("A5A50209 07020102 6300 070102 CEF7"));
     assert_eq!(reported.reply, hex("A5A5020F 80020700 80026303 80020700 070102 5FD1"));
 
     // In type 01 a setting's code is unknown, in type 02 the Ping's.
-    let answer = fed(&mut Both::blank(), &message(0x01, &hex("0200 07020102 0201 00 0200")));
+    let answer = fed(&mut Both::blank(), 0, &message(0x01, &hex("0200 07020102 0201 00 0200")));
     assert_eq!(rows(&answer.reply), [(2, 0), (7, 3), (2, 4), (2, 0)]);
     assert_eq!(rows_of("0200"), [(2, 3)]);
 }
@@ -174,7 +160,7 @@ fn functions_and_sizes() {
                 let row = (code, if right { 0 } else { 4 });
                 let other = hex("07020101");
                 let payload = [&other[..], &field, &other, &field].concat();
-                let answer = fed(&mut Both::blank(), &message(0x02, &payload));
+                let answer = fed(&mut Both::blank(), 0, &message(0x02, &payload));
                 assert_eq!(rows(&answer.reply), [(7, 0), row, (7, 0), row]);
                 assert_eq!(answer.saved, right && function == 3);
             }
@@ -186,7 +172,7 @@ fn functions_and_sizes() {
 #[test]
 fn later_fields_see_earlier_ones() {
     let mut both = Both::blank();
-    let answer = fed(&mut both, &hex("A5A50211 07020103 070103 07020101 070104 070102 96DC"));
+    let answer = fed(&mut both, 0, &hex("A5A50211 07020103 070103 07020101 070104 070102 96DC"));
     assert_eq!(answer.reply, hex("A5A50217 80020700 80020700 80020700 80020700 80020700070103 1B70"));
     assert!(answer.saved);
     assert_eq!(both.board.settings.accelerometer, 3);
@@ -194,12 +180,12 @@ fn later_fields_see_earlier_ones() {
 
     // The other way round the load finds no entry, and takes the factory's.
     let mut both = Both::blank();
-    let answer = fed(&mut both, &message(0x02, &hex("07020103 070104 070103 070102")));
+    let answer = fed(&mut both, 0, &message(0x02, &hex("07020103 070104 070103 070102")));
     assert_eq!(answer.reply, message(0x02, &hex("80020700 80020700 80020700 80020700070102")));
     assert_eq!(both.page, page_of("01 070401 02"));
 
     // Two reports of one setting differ where it was set between them.
-    let answer = fed(&mut Both::blank(), &message(0x02, &hex("080102 08020105 080102 080105 080102")));
+    let answer = fed(&mut Both::blank(), 0, &message(0x02, &hex("080102 08020105 080102 080105 080102")));
     let expected = "80020800080103 80020800 80020800080105 80020800 80020800080103";
     assert_eq!(answer.reply, message(0x02, &hex(expected)));
 }
@@ -217,13 +203,13 @@ fn save_marks() {
         ("070104 080105 010102", false),
     ] {
         let mut both = Both::blank();
-        let answer = fed(&mut both, &message(0x02, &hex(payload)));
+        let answer = fed(&mut both, 0, &message(0x02, &hex(payload)));
         assert_eq!(answer.saved, saved, "{payload}");
         assert_eq!(both.page != [0xFF; 64], saved, "{payload}");
     }
     // Also where the page has the value already.
     let mut both = Both::new(&factory_page());
-    assert!(fed(&mut both, &message(0x02, &hex("080103 080102"))).saved);
+    assert!(fed(&mut both, 0, &message(0x02, &hex("080103 080102"))).saved);
     assert_eq!(both.page, factory_page());
 }
 
@@ -235,7 +221,7 @@ fn longest_reply() {
     for room in [16, 165] {
         assert_eq!(both.try_feed(0, &bytes, room).unwrap().number, 18);
     }
-    let answer = fed(&mut both, &bytes);
+    let answer = fed(&mut both, 0, &bytes);
     assert_eq!(answer.reply, message(0x02, &hex("80020100 0104 0001C200").repeat(16)));
     assert_eq!((answer.reply.len(), Port::LONGEST_REPLY), (166, 166));
 
@@ -274,11 +260,11 @@ fn separate_messages() {
         let payload = fields::row(&mut rng, kind, count);
         let page = generate::sound_page(&mut rng);
         let (mut one, mut many) = (Both::new(&page), Both::new(&page));
-        let answer = fed(&mut one, &message(kind, &payload));
+        let answer = fed(&mut one, 0, &message(kind, &payload));
 
         let (mut replied, mut saved) = (Vec::new(), false);
         for field in cut_into_fields(&payload) {
-            let separate = fed(&mut many, &message(kind, field));
+            let separate = fed(&mut many, 0, &message(kind, field));
             let end = separate.reply.len() - 2;
             replied.extend_from_slice(&separate.reply[4..end]);
             saved |= separate.saved;

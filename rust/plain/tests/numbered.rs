@@ -3,24 +3,10 @@
 
 mod common;
 
-use common::{hex, page_of, Answer, Both};
+use common::{fed, hex, page_of, rows, Both};
 use plain::generate::numbered::{self, numbered};
 use plain::generate::{self, Rng, Step};
 use plain::*;
-
-/// Feeds one good message whole to a port that holds nothing.
-fn fed(both: &mut Both, port: u8, bytes: &[u8]) -> Answer {
-    let answer = both.feed(port, bytes);
-    assert_eq!((answer.number, answer.taken, answer.skipped), (0, bytes.len(), 0));
-    assert_eq!(both.held(usize::from(port)), 0);
-    answer
-}
-
-/// Echo and error of each row of a reply.
-fn rows(reply: &[u8]) -> Vec<(u8, u8)> {
-    let rows = (0..).map(|row| read_reply(reply, row)).take_while(|row| row.number == 0);
-    rows.map(|row| (row.echo, row.error)).collect()
-}
 
 /// A board on a page that keeps this number and nothing else.
 fn keeping(number: u32) -> Both {

@@ -2,22 +2,9 @@
 
 mod common;
 
-use common::{hex, page_of, Answer, Both};
+use common::{fed, hex, page_of, rows, Both};
 use plain::generate::{self, numbered::numbered, ranges, Rng};
 use plain::*;
-
-/// Feeds one whole message. Gives the answer.
-fn fed(both: &mut Both, port: u8, bytes: &[u8]) -> Answer {
-    let answer = both.feed(port, bytes);
-    assert_eq!((answer.number, answer.taken), (0, bytes.len()));
-    answer
-}
-
-/// The echo and the error of each row.
-fn rows(reply: &[u8]) -> Vec<(u8, u8)> {
-    let rows = (0..).map(|row| read_reply(reply, row)).take_while(|row| row.number == 0);
-    rows.map(|row| (row.echo, row.error)).collect()
-}
 
 /// A board that works with this range, on a page with this range, or none, and this number, or none.
 fn board_on(working: u8, gyroscope: Option<u8>, last_number: Option<u32>) -> Both {

@@ -3,7 +3,7 @@
 
 mod common;
 
-use common::{hex, page_of, Answer, Both, P1, P1_REPLY, P2};
+use common::{fed, hex, page_of, rows, Both, P1, P1_REPLY, P2};
 use plain::generate::numbered::numbered;
 use plain::generate::readonly::{self, Run};
 use plain::generate::{self, Rng, Step};
@@ -20,20 +20,6 @@ fn blank() -> Both {
 /// A read-only board on a page that keeps this number and nothing else.
 fn keeping(number: u32) -> Both {
     Both::start(Profile::ReadOnly, &write_page(&Values { last_number: Some(number), ..Values::default() }))
-}
-
-/// Feeds one good message whole to a port that holds nothing.
-fn fed(both: &mut Both, port: u8, bytes: &[u8]) -> Answer {
-    let answer = both.feed(port, bytes);
-    assert_eq!((answer.number, answer.taken, answer.skipped), (0, bytes.len(), 0));
-    assert_eq!(both.held(usize::from(port)), 0);
-    answer
-}
-
-/// Echo and error of each row of a reply.
-fn rows(reply: &[u8]) -> Vec<(u8, u8)> {
-    let rows = (0..).map(|row| read_reply(reply, row)).take_while(|row| row.number == 0);
-    rows.map(|row| (row.echo, row.error)).collect()
 }
 
 /// Feeds one good message to port 1. Nothing but the reply comes of it.

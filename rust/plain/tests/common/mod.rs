@@ -3,7 +3,9 @@
 #![allow(dead_code)]
 
 use plain::generate::Step;
-use plain::{check_message, feed, scan_marked, silence, start, Board, Event, Fed, Port, Profile, Reckoned, Reckoning};
+use plain::{
+    check_message, feed, read_reply, scan_marked, silence, start, Board, Event, Fed, Port, Profile, Reckoned, Reckoning,
+};
 
 /// "Blanks are only for the eye."
 pub fn hex(text: &str) -> Vec<u8> {
@@ -168,6 +170,20 @@ impl Both {
     pub fn held(&self, port: usize) -> usize {
         self.board.ports[port].held
     }
+}
+
+/// Feeds one good message whole to a port that holds nothing.
+pub fn fed(both: &mut Both, port: u8, bytes: &[u8]) -> Answer {
+    let answer = both.feed(port, bytes);
+    assert_eq!((answer.number, answer.taken, answer.skipped), (0, bytes.len(), 0));
+    assert_eq!(both.held(usize::from(port)), 0);
+    answer
+}
+
+/// Echo and error of each row of a reply.
+pub fn rows(reply: &[u8]) -> Vec<(u8, u8)> {
+    let rows = (0..).map(|row| read_reply(reply, row)).take_while(|row| row.number == 0);
+    rows.map(|row| (row.echo, row.error)).collect()
 }
 
 pub fn same<T: PartialEq + std::fmt::Debug + ?Sized>(what: &str, left: &T, right: &T) -> Result<(), String> {
