@@ -22,7 +22,7 @@ use Rattle.command.specs.Outcome.{receivedOf}
 use Rattle.command.specs.Rights.{readOnlyRights}
 use Rattle.command.specs.Answer.{Answering, pageAccess, replyRoom}
 use Rattle.command.proofs.Pages.{answer-large}
-use Rattle.command.proofs.Readonly.{read-only-leaves}
+use Rattle.command.proofs.ReadOnly.{read-only-leaves}
 use Rattle.board.specs.declared.board.Board.{Board}
 use Rattle.board.specs.Profile.{Profile, readOnly, rightsOf}
 use Rattle.board.specs.Port.{heldBytes}

@@ -31,9 +31,9 @@ use Rattle.board.specs.Handling.{Reckoned, Kept, settingsOf, reckonMessa
 use Rattle.board.specs.Runs.{Call, Calls, callFrom, AllTold}
 use Rattle.board.specs.Histories.{actsFrom, actsOn, acceptedFrom, acceptedOn}
 use Rattle.board.specs.Theorems.{answersOf}
-use Rattle.board.specs.Restarts.{callsIn, toldActs, startAnew, reckonedActs, acceptedIn, HistoryDemand3, HistoryFeedsDemand3, HistoryDrainedAlike}
+use Rattle.board.specs.Restarts.{callsIn, toldActs, startAnew, reckonedActs, acceptedIn, profileAfter, ProfileStays, HistoryDemand3, HistoryFeedsDemand3, HistoryDrainedAlike}
 use Rattle.board.proofs.Feedings.{calls-keep}
-use Rattle.board.proofs.Follows.{start-profile}
+use Rattle.board.proofs.Follows.{call-profile, start-profile}
 use Rattle.board.proofs.Handles.{handles}
 use Rattle.board.proofs.Reckons.{Followed, followed-reckoned, settings-usable, started, fresh-padded, page-sound}
 use Rattle.board.proofs.Steps.{stateOf, Padded, Same, step-same}
@@ -139,6 +139,17 @@ acts-passing b page (call c ∷ acts) e =
     acts-passing (f .answer .board) (f .page) acts (calls-keep (c .port) b (c .input) (c .room) page .page-sound e)
 acts-passing b page (restart profile ∷ acts) e = acts-passing (startOf profile page .board) page acts e
 
+-- ---- the profile is that of the last start
+
+pub profile-stays : ProfileStays
+unfolding actsFrom
+profile-stays b page [] = refl
+profile-stays b page (call c ∷ acts) =
+    let f : Feeding = callOf (c .port) b (c .input) (c .room) page in
+    profile-stays (f .answer .board) (f .page) acts ∙ ap (λ (p : Profile). profileAfter p acts) (call-profile (c .port) b (c .input) (c .room) page)
+profile-stays b page (restart next ∷ acts) =
+    profile-stays (startOf next page .board) page acts ∙ ap (λ (p : Profile). profileAfter p acts) (start-profile next page)
+
 -- ---- the whole
 
 module _ (profile : Profile) (page : List ℕ) (acts : List (Act Profile Call)) (e : pageNumber page ≡ 0) where
@@ -195,6 +206,7 @@ history-demand3 profile page acts e d =
       storable-values = i .storable-values;
       written = i .written;
       reckoned = followed-reckoned (callsIn acts) (actsOn profile page acts) (program profile page acts e) (reckonedActs profile (valuesIn page) acts) (f .calls-told) m (few profile page acts e 0) (few profile page acts e 1);
+      profile-kept = profile-stays (startOf profile page .board) page acts ∙ ap (λ (p : Profile). profileAfter p acts) (start-profile profile page);
       started = λ next. start-done next (actsOn profile page acts .page) (acts-passing (startOf profile page .board) page acts e);
       accepted = f .accepted-told ∙ ap acceptedIn (m .answers);
     }

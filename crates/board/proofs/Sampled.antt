@@ -26,7 +26,7 @@ use Rattle.board.specs.Histories.{actsFrom, acceptedFrom}
 use Rattle.board.specs.Examples.{ExampleLines}
 use Rattle.board.specs.Older.{OlderLines}
 use Rattle.board.specs.Quiet.{QuietLines}
-use Rattle.board.specs.Readonly.{ReadonlyLines}
+use Rattle.board.specs.ReadOnly.{ReadOnlyLines}
 
 pub sample-lines : SampleLines
 unfolding seek messageOf sumsRight front fieldsOf settingOf usable storable allStorable writing factoryPage entryFrom entryOf partOf bodyOf heldUnder valuesIn sound pageNumber pageWriting commandOf subjectOf fieldWrong fieldError commandError fieldOutcome fieldsOutcome commandOutcome messageOutcome receivedOf lookedUp loadedFrom startSettings answering settingsUsable portHolding startOf unsound feedNumber stepBy callOf callsFrom
@@ -44,6 +44,6 @@ pub quiet-lines : QuietLines
 unfolding seek messageOf sumsRight front fieldsOf settingOf usable storable allStorable writing factoryPage entryFrom entryOf partOf bodyOf heldUnder valuesIn sound pageNumber pageWriting commandOf subjectOf fieldWrong fieldError commandError numberError fieldOutcome fieldsOutcome commandOutcome numberedOutcome messageOutcome receivedOf lookedUp loadedFrom startSettings answering settingsUsable portHolding startOf unsound feedNumber stepBy callOf carried actsFrom acceptedFrom drainedActs
 quiet-lines = record { lines = refl; drained = refl }
 
-pub readonly-lines : ReadonlyLines
+pub read-only-lines : ReadOnlyLines
 unfolding seek messageOf sumsRight front fieldsOf settingOf usable storable allStorable writing factoryPage entryFrom entryOf partOf bodyOf heldUnder valuesIn sound pageNumber pageWriting commandOf subjectOf fieldWrong fieldError commandError numberError fieldOutcome fieldsOutcome commandOutcome numberedOutcome messageOutcome receivedOf lookedUp loadedFrom startSettings answering settingsUsable portHolding startOf unsound feedNumber stepBy callOf carried actsFrom acceptedFrom callsFrom
-readonly-lines = record { lines = refl; same-calls = refl; seen = refl; seen-alike = refl }
+read-only-lines = record { lines = refl; same-calls = refl; seen = refl; seen-alike = refl }

@@ -21,7 +21,7 @@ use Rattle.board.specs.Profile.{rightsOf}
 use Rattle.board.specs.declared.board.Board.{Board}
 use Rattle.board.specs.Port.{heldBytes, portHolding, portOf, withPort}
 use Rattle.board.specs.Feed.{PortStep, feedNumber, stepOn, stepBy, acceptOn, callOf}
-use Rattle.board.specs.AnyBoard.{SilenceDrains, SilencesDrain}
+use Rattle.board.specs.Silences.{SilenceDrains, SilencesDrain}
 use Rattle.board.proofs.Feedings.{with-held, by-number}
 use Rattle.board.proofs.Places.{resume-past}
 

@@ -12,10 +12,11 @@ pub mod Place
 pub mod Port
 pub mod Profile
 pub mod Quiet
-pub mod Readonly
+pub mod ReadOnly
 pub mod Restarts
 pub mod Runs
 pub mod Samples
+pub mod Silences
 pub mod Start
 pub mod Theorems
 pub mod Unprofiled

@@ -18,12 +18,13 @@ use Rattle.page.specs.Sound.{pageNumber}
 use Rattle.command.specs.Numbered.{carried}
 use Rattle.command.specs.Outcome.{receivedOf}
 use Rattle.command.specs.Answer.{replyRoom}
+use Rattle.board.specs.declared.board.Board.{Board}
 use Rattle.board.specs.Profile.{Profile}
 use Rattle.board.specs.Start.{startOf}
 use Rattle.board.specs.Handling.{Reckoned, settingsOf, reckonMessage}
 use Rattle.board.specs.Runs.{Call, callFrom}
 use Rattle.board.specs.Theorems.{answersOf, AsReckoned}
-use Rattle.board.specs.Histories.{actsOn, acceptedWith, acceptedOn}
+use Rattle.board.specs.Histories.{actsFrom, actsOn, acceptedWith, acceptedOn}
 
 abbrev pub callsIn : List (Act Profile Call) → List Call
 callsIn [] = []
@@ -52,6 +53,16 @@ abbrev pub acceptedIn : List Answer → List ℕ
 acceptedIn [] = []
 acceptedIn (a ∷ answers) = acceptedWith (a .saved) (carriedBy (a .reports)) ++ acceptedIn answers
 
+-- The profile that a history leaves the board in: that of its last start.
+abbrev pub profileAfter : Profile → List (Act Profile Call) → Profile
+profileAfter profile [] = profile
+profileAfter profile (call c ∷ acts) = profileAfter profile acts
+profileAfter profile (restart next ∷ acts) = profileAfter next acts
+
+-- No call changes it, on any board and page. Proof: Restarts `profile-stays`.
+abbrev pub ProfileStays : Type 0
+ProfileStays = (b : Board) (page : List ℕ) (acts : List (Act Profile Call)) → actsFrom b page acts .board .readonly ≡ profileAfter (b .readonly) acts
+
 -- The page is the writing of storable values; from a start on it all goes as reckoned from those values; and the numbers accepted are
 -- those of the messages that the reckoning reports with the mark of a save. A start at the end is done; and so is every restart, since
 -- each stands at the end of the history before it (`OneActMore`).
@@ -60,6 +71,7 @@ pub record HistoryFromPage (profile : Profile) (page : List ℕ) (acts : List (A
   pub storable-values : allStorable values ≡ true
   pub written : page ≡ writing values
   pub reckoned : AsReckoned (callsIn acts) (actsOn profile page acts) (reckonedActs profile values acts)
+  pub profile-kept : actsOn profile page acts .board .readonly ≡ profileAfter profile acts
   pub started : (next : Profile) → startOf next (actsOn profile page acts .page) .number ≡ 0
   pub accepted : acceptedOn profile page acts ≡ acceptedIn (reckonedActs profile values acts .answers)
 

@@ -28,8 +28,8 @@ use Rattle.command.specs.Errors.{mostFields, isKind, commandError}
 use Rattle.command.specs.Numbers.{numberedKind, numberOf, isFresh, numberError}
 use Rattle.command.specs.Outcome.{Access, State, Received, thenOutcome, receivedOf, fieldsOutcome}
 use Rattle.command.specs.Handle.{commandOutcome, marked, spent, numberedOutcome, messageOutcome}
-use Rattle.command.specs.Readonly.{noneAlters}
-use Rattle.command.proofs.Readonly.{reading-allowed}
+use Rattle.command.specs.ReadOnly.{noneAlters}
+use Rattle.command.proofs.ReadOnly.{reading-allowed}
 use Rattle.command.proofs.Separate.{known-kind, is-command}
 use Rattle.command.proofs.Places.{put-length, put-front}
 use Rattle.client.specs.Writer.{codeSubject, acceptable, fieldFor, kindFor, commandMessage, numberedPayload, numberedMessage, Asked, askedSubject, askedField, askedRight, fieldWriting}

@@ -14,7 +14,7 @@ use Rattle.command.specs.Handle.{commandOutcome, numberedOutcome, messag
 use Rattle.command.specs.Answer.{lookedUp, loadedFrom}
 use Rattle.command.specs.Examples.{ExampleLines}
 use Rattle.command.specs.Older.{OlderLines}
-use Rattle.command.specs.ReadonlyExamples.{ReadonlyLines}
+use Rattle.command.specs.ReadOnlyExamples.{ReadOnlyLines}
 
 pub example-lines : ExampleLines
 unfolding settingOf usable storable allStorable writing factoryPage entryFrom entryOf partOf bodyOf heldUnder valuesIn pageWriting fieldsOf commandOf subjectOf fieldWrong fieldError commandError numberError fieldOutcome fieldsOutcome commandOutcome numberedOutcome messageOutcome lookedUp loadedFrom startSettings
@@ -24,6 +24,6 @@ pub older-lines : OlderLines
 unfolding settingOf usable storable allStorable writing factoryPage entryFrom entryOf partOf bodyOf heldUnder valuesIn pageWriting fieldsOf commandOf subjectOf fieldWrong fieldError commandError numberError fieldOutcome fieldsOutcome commandOutcome numberedOutcome messageOutcome lookedUp loadedFrom startSettings sound
 older-lines = record { sound-page = refl; lines = refl }
 
-pub readonly-lines : ReadonlyLines
+pub read-only-lines : ReadOnlyLines
 unfolding settingOf usable storable allStorable writing factoryPage entryFrom entryOf partOf bodyOf heldUnder valuesIn pageWriting fieldsOf commandOf subjectOf fieldWrong fieldError commandError numberError fieldOutcome fieldsOutcome commandOutcome numberedOutcome messageOutcome lookedUp loadedFrom startSettings
-readonly-lines = refl
+read-only-lines = refl

@@ -8,7 +8,7 @@ pub mod Numbers
 pub mod Pages
 pub mod Payloads
 pub mod Places
-pub mod Readonly
+pub mod ReadOnly
 pub mod Rests
 pub mod Rows
 pub mod Separate

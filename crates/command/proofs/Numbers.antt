@@ -30,12 +30,11 @@ use Rattle.command.specs.Effects.{workingValue, effectOf}
 use Rattle.command.specs.Outcome.{Access, State, Outcome, Received, thenOutcome, pageAfter, denialOf, fieldOutcome, fieldsOutcome}
 use Rattle.command.specs.Handle.{fieldsIn, refusedOutcome, commandOn, commandOutcome, marked, spent, numberedOutcome, messageOutcome}
 use Rattle.command.specs.Answer.{loadedFrom, savedOn, spentOn, numberOn, pageAccess}
-use Rattle.command.specs.Numbered.{carried, allowedNumber, keptOn, carriesFresh, NumberHandles, NumberKept, WithoutNumber, Unchanged, NumberGuards}
+use Rattle.command.specs.Numbered.{carried, allowedNumber, keptOn, carriesFresh, NumberHandles, NumberKept, WithoutNumber, Leaves, NumberGuards}
 use Rattle.command.specs.Place.{fieldsWith}
-use Rattle.command.specs.Readonly.{Leaves}
 use Rattle.stream.proofs.Bools.{and-both}
 use Rattle.command.proofs.Pages.{number-small, page-changes}
-use Rattle.command.proofs.Readonly.{command-leaves}
+use Rattle.command.proofs.ReadOnly.{command-leaves}
 use Rattle.command.proofs.Separate.{is-command}
 
 -- ---- a message that carries a number
@@ -281,7 +280,7 @@ pub number-guards : NumberGuards
 unfolding messageOutcome carried
 number-guards x m kept e f = go (m .good) (eqb (m .kind) numberedKind) refl refl
   where
-    go : (g k : Bool) → m .good ≡ g → eqb (m .kind) numberedKind ≡ k → Unchanged x m
+    go : (g k : Bool) → m .good ≡ g → eqb (m .kind) numberedKind ≡ k → Leaves x (messageOutcome pageAccess guardedRights x m)
     go false k gs ks = record { next = rw gs; unmarked = rw gs }
     go true false gs ks = let l = command-left kept x (m .kind) (m .payload) e in record { next = rw (gs, ks) (l .next); unmarked = rw (gs, ks) (l .unmarked) }
     go true true gs ks =

@@ -12,8 +12,8 @@ pub mod OnBoard
 pub mod Outcome
 pub mod Place
 pub mod Puts
-pub mod Readonly
-pub mod ReadonlyExamples
+pub mod ReadOnly
+pub mod ReadOnlyExamples
 pub mod Rights
 pub mod Several
 pub mod Theorems

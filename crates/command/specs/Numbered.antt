@@ -12,7 +12,7 @@ use Rattle.page.specs.Sound.{sound}
 use Rattle.command.specs.declared.rights.Rights.{Rights}
 use Rattle.command.specs.Rights.{allRights, guardedRights}
 use Rattle.command.specs.Numbers.{numberedKind, numberOf, innerKind, innerPayload, isFresh}
-use Rattle.command.specs.Outcome.{Access, State, Received}
+use Rattle.command.specs.Outcome.{Access, State, Outcome, Received}
 use Rattle.command.specs.Handle.{refusedOutcome, marked, spent, messageOutcome}
 use Rattle.command.specs.Answer.{numberOn, pageAccess}
 
@@ -76,12 +76,14 @@ WithoutNumber =
     (x : State (List ℕ)) (m : Received) → numberOn (x .page) ≡ Absent
     → messageOutcome pageAccess guardedRights x m ≡ messageOutcome pageAccess allRights x m
 
--- Once the page keeps a number, nothing changes where one is needed (on port 0) without a fresh one: neither a working value nor the
--- page, whatever the message. Proof: Numbers `number-guards`.
-pub record Unchanged (x : State (List ℕ)) (m : Received) : Type 0 where
-  pub next : messageOutcome pageAccess guardedRights x m .next ≡ x
-  pub unmarked : messageOutcome pageAccess guardedRights x m .saved ≡ false
+-- Nothing changes: neither a working value nor the page; and there is no mark.
+pub record Leaves {P : Type 0} (x : State P) (o : Outcome P) : Type 0 where
+  pub next : o .next ≡ x
+  pub unmarked : o .saved ≡ false
 
+-- Once the page keeps a number, nothing changes where one is needed (on port 0) without a fresh one, whatever the message. Proof: Numbers
+-- `number-guards`.
 abbrev pub NumberGuards : Type 0
 NumberGuards =
-    (x : State (List ℕ)) (m : Received) (last : ℕ) → numberOn (x .page) ≡ Value last → carriesFresh (Value last) (carried m) ≡ false → Unchanged x m
+    (x : State (List ℕ)) (m : Received) (last : ℕ) → numberOn (x .page) ≡ Value last → carriesFresh (Value last) (carried m) ≡ false
+    → Leaves x (messageOutcome pageAccess guardedRights x m)

@@ -1,6 +1,6 @@
 -- What is proved of the command writer and the board together. Each statement names its proof, a term of that type in a file of
 -- proofs/.
-use mathlib.Core.Bool.{Bool, true, false, _||_}
+use mathlib.Core.Bool.{true, false, _||_}
 use mathlib.Core.List.{List}
 use mathlib.Core.Path.{_≡_}
 use Prim.Native.Nat.{ℕ, _≤_, _<_}

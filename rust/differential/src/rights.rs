@@ -38,16 +38,16 @@ fn numbered(fault: Fault, reported: &Reported) -> Option<Handled> {
     let inside = payload.get(5..).and_then(plain::fields_of).unwrap_or_default();
     let report = |field: &plain::Part| field.data.first() == Some(&2);
     match fault {
-        Fault::ReadonlyNumberTaken => Some(full),
+        Fault::ReadOnlyNumberTaken => Some(full),
         // The reply says 7, and the number is spent all the same.
-        Fault::ReadonlyNumberSpent if full.saved => {
+        Fault::ReadOnlyNumberSpent if full.saved => {
             let last_number = full.values.last_number;
             let values = plain::Values { last_number, ..reported.values };
             Some(Handled { saved: true, values, ..refused })
         }
-        Fault::ReadonlyNumberMarked if full.saved => Some(Handled { saved: true, ..refused }),
-        Fault::ReadonlyNumberedPing if payload.get(4) == Some(&0x01) => Some(full),
-        Fault::ReadonlyNumberedReport if !inside.is_empty() && inside.iter().all(report) => Some(full),
+        Fault::ReadOnlyNumberMarked if full.saved => Some(Handled { saved: true, ..refused }),
+        Fault::ReadOnlyNumberedPing if payload.get(4) == Some(&0x01) => Some(full),
+        Fault::ReadOnlyNumberedReport if !inside.is_empty() && inside.iter().all(report) => Some(full),
         Fault::Error7After5 if full.rows[0].error == 5 => Some(full),
         Fault::Error7AfterLength if payload.len() < 5 => Some(full),
         Fault::Error7AfterInnerType if full.saved && full.rows[0].error == 2 => Some(reported.refused(echo, 2)),
@@ -55,9 +55,9 @@ fn numbered(fault: Fault, reported: &Reported) -> Option<Handled> {
             let rows = inside.iter().map(|field| Row { echo: field.code, error: 7, value: None });
             Some(Handled { rows: rows.collect(), ..refused })
         }
-        Fault::ReadonlyEchoOfNumber => Some(reported.refused(*payload.first()?, 7)),
-        Fault::ReadonlyEchoOfType => Some(reported.refused(*payload.get(4)?, 7)),
-        Fault::ReadonlyEchoZero => Some(reported.refused(0, 7)),
+        Fault::ReadOnlyEchoOfNumber => Some(reported.refused(*payload.first()?, 7)),
+        Fault::ReadOnlyEchoOfType => Some(reported.refused(*payload.get(4)?, 7)),
+        Fault::ReadOnlyEchoZero => Some(reported.refused(0, 7)),
         _ => None,
     }
 }
@@ -127,14 +127,14 @@ fn on_port_1(fault: Fault, alone: &Reported, field: &[u8], right: &Handled) -> O
     let setting = alone.kind() == 0x02 && plain::value_size(field[0]).is_some();
     let with = |error: u8| Some(alone.refused(field[0], error));
     match (fault, function(field)) {
-        (Fault::ReadonlyUse, Some(1)) | (Fault::ReadonlySave, Some(3)) => Some(full),
-        (Fault::ReadonlyLoad, Some(4)) | (Fault::ReadonlyFactory, Some(5)) => Some(full),
+        (Fault::ReadOnlyUse, Some(1)) | (Fault::ReadOnlySave, Some(3)) => Some(full),
+        (Fault::ReadOnlyLoad, Some(4)) | (Fault::ReadOnlyFactory, Some(5)) => Some(full),
         // The reply says 7, and the command is done all the same.
-        (Fault::ReadonlyUseUntold, Some(1)) if error == 7 => Some(Handled { rows: right.rows.clone(), ..full }),
-        (Fault::ReadonlySaveKept, Some(3)) if error == 7 => {
+        (Fault::ReadOnlyUseUntold, Some(1)) if error == 7 => Some(Handled { rows: right.rows.clone(), ..full }),
+        (Fault::ReadOnlySaveKept, Some(3)) if error == 7 => {
             Some(Handled { rows: right.rows.clone(), saved: false, ..full })
         }
-        (Fault::ReadonlySaveMarked, Some(3)) if error == 7 => Some(Handled { saved: true, ..right.clone() }),
+        (Fault::ReadOnlySaveMarked, Some(3)) if error == 7 => Some(Handled { saved: true, ..right.clone() }),
         (Fault::Error7Before3, _) if error == 3 && changes(field) => with(7),
         (Fault::Error7Behind4, _) if error == 7 && own == 4 => with(4),
         (Fault::Error7Behind6, _) if error == 7 && own == 6 => with(6),

@@ -1,5 +1,5 @@
 -- Request 12: feeds and restarts of a read-only board as a single table, and what port 0 sees of a list, with a single statement about what
--- the rules give for them. (Messages one by one: `ReadonlyLines` in crate command.)
+-- the rules give for them. (Messages one by one: `ReadOnlyLines` in crate command.)
 use mathlib.Core.Bool.{true, false}
 use mathlib.Core.List.{List, [], _∷_, _++_}
 use mathlib.Core.Path.{_≡_}
@@ -16,11 +16,11 @@ use Rattle.board.specs.Lines.{Line, plain, marks, numbered, ping, sets, 
 use Rattle.board.specs.Interference.{Seen, seenOn}
 
 -- A page with accelerometer range 02 and the number 5.
-abbrev savedPage : List ℕ
-savedPage = filled (0x02 ∷ 0x07 ∷ 0x07 ∷ 0x01 ∷ 0x70 ∷ 0x08 ∷ 0x04 ∷ 0x02 ∷ 0x00 ∷ 0x00 ∷ 0x00 ∷ 0x05 ∷ [])
+abbrev rangePage : List ℕ
+rangePage = filled (0x02 ∷ 0x07 ∷ 0x07 ∷ 0x01 ∷ 0x70 ∷ 0x08 ∷ 0x04 ∷ 0x02 ∷ 0x00 ∷ 0x00 ∷ 0x00 ∷ 0x05 ∷ [])
 
-abbrev pub readonlyExamples : List Line
-readonlyExamples =
+abbrev pub readOnlyExamples : List Line
+readOnlyExamples =
     -- On port 1 a range is not used and not saved, and reported; a number is not spent there, and port 0 takes it. Then 7 and 5 for the same
     -- command on either port.
     record {
@@ -50,7 +50,7 @@ readonlyExamples =
           ∷ [];
       accepted = [];
       settings = working 0x02 0x03;
-      left = savedPage;
+      left = rangePage;
     }
     ∷ []
 
@@ -100,9 +100,9 @@ seenThere =
     ∷ []
 
 -- For each line's page and calls what the line says; and of both lists, whose calls of port 0 are the same, port 0 sees these rows. Proof:
--- Sampled `readonly-lines`.
-pub record ReadonlyLines : Type 0 where
-  pub lines : linesFor readOnly readonlyExamples ≡ readonlyExamples
+-- Sampled `read-only-lines`.
+pub record ReadOnlyLines : Type 0 where
+  pub lines : linesFor readOnly readOnlyExamples ≡ readOnlyExamples
   pub same-calls : portZeroCalls (toldOf hostile) ≡ portZeroCalls (toldOf harmless)
   pub seen : seenOn blankPage hostile ≡ seenThere
   pub seen-alike : seenOn blankPage harmless ≡ seenThere

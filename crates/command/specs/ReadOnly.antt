@@ -11,15 +11,11 @@ use Rattle.command.specs.Rights.{allRights, readOnlyRights}
 use Rattle.command.specs.Command.{commandsOf, subjectOf}
 use Rattle.command.specs.Errors.{isUnknown, alters, commandError}
 use Rattle.command.specs.Numbers.{numberedKind, innerPayload}
-use Rattle.command.specs.Outcome.{Access, State, Outcome, Received, idle, rowOutcome, fieldOutcome}
+use Rattle.command.specs.Outcome.{Access, State, Received, idle, rowOutcome, fieldOutcome}
 use Rattle.command.specs.Handle.{fieldsIn, refusedOutcome, messageOutcome}
+use Rattle.command.specs.Numbered.{Leaves}
 
--- Nothing changes, whatever the message: neither a working value nor the page; and there is no mark.
-pub record Leaves {P : Type 0} (x : State P) (o : Outcome P) : Type 0 where
-  pub next : o .next ≡ x
-  pub unmarked : o .saved ≡ false
-
--- Proof: Readonly `read-only-leaves`.
+-- Nothing changes, whatever the message. Proof: ReadOnly `read-only-leaves`.
 abbrev pub ReadOnlyLeaves : Type 1
 ReadOnlyLeaves = (P : Type 0) (access : Access P) (x : State P) (m : Received) → Leaves x (messageOutcome access readOnlyRights x m)
 
@@ -31,7 +27,7 @@ pub record FieldReadOnly {P : Type 0} (access : Access P) (x : State P) (c : Com
   pub unknown : isUnknown (subjectOf (c .kind) (c .code)) ≡ true → fieldOutcome access readOnlyRights x c ≡ rowOutcome (c .code) 3 (idle x)
   pub other : alters (subjectOf (c .kind) (c .code)) c ≡ false → fieldOutcome access readOnlyRights x c ≡ fieldOutcome access allRights x c
 
--- Proof: Readonly `fields-read-only`.
+-- Proof: ReadOnly `fields-read-only`.
 abbrev pub FieldsReadOnly : Type 1
 FieldsReadOnly = (P : Type 0) (access : Access P) (x : State P) (c : Command) → FieldReadOnly access x c
 
@@ -42,7 +38,7 @@ pub record MessageReadOnly {P : Type 0} (access : Access P) (x : State P) (m : R
   pub damaged : m .good ≡ false → messageOutcome access readOnlyRights x m ≡ messageOutcome access allRights x m
   pub refused : (m .kind ≡ numberedKind → ⊥) → (commandError (m .kind) (m .payload) ≡ 0 → ⊥) → messageOutcome access readOnlyRights x m ≡ messageOutcome access allRights x m
 
--- Proof: Readonly `messages-read-only`.
+-- Proof: ReadOnly `messages-read-only`.
 abbrev pub MessagesReadOnly : Type 1
 MessagesReadOnly = (P : Type 0) (access : Access P) (x : State P) (m : Received) → MessageReadOnly access x m
 
@@ -52,7 +48,7 @@ noneAlters [] = true
 noneAlters (c ∷ cs) = not (alters (subjectOf (c .kind) (c .code)) c) && noneAlters cs
 
 -- A message whose fields are so is answered under any rights as with all: a read-only port may use Ping and function 2, and so may port 0
--- once the page keeps a number. Proof: Readonly `reading-allowed`.
+-- once the page keeps a number. Proof: ReadOnly `reading-allowed`.
 abbrev pub ReadingAllowed : Type 1
 ReadingAllowed =
     (P : Type 0) (access : Access P) (rights : Rights) (x : State P) (m : Received) → (m .kind ≡ numberedKind → ⊥)

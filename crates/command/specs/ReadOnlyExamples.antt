@@ -10,8 +10,8 @@ use Rattle.command.specs.Rights.{guardedRights, readOnlyRights}
 use Rattle.command.specs.Answer.{settingsFrom}
 use Rattle.command.specs.Examples.{Line, good, damaged, numbered, row, field, use1, baud, kept, blank, unnumbered, linesFrom}
 
-abbrev pub readonlyExamples : List Line
-readonlyExamples =
+abbrev pub readOnlyExamples : List Line
+readOnlyExamples =
     -- functions 1, 3, 4 and 5, also of a wrong size, field by field; a report is answered; an unknown code is 3; size 0 and functions 0 and 6
     -- are 4
     record {
@@ -53,6 +53,6 @@ readonlyExamples =
     ∷ record { rights = readOnlyRights; message = good 0x02 (field 0x01 0x03 []); rows = row 0x01 7 []; saved = false; settings = baud 115200; values = kept Absent 10 }
     ∷ []
 
--- From a start on a blank page the rules give for each line's message what the line says. Proof: Exampled `readonly-lines`.
-abbrev pub ReadonlyLines : Type 0
-ReadonlyLines = linesFrom (record { settings = settingsFrom blankPage; page = blankPage }) readonlyExamples ≡ readonlyExamples
+-- From a start on a blank page the rules give for each line's message what the line says. Proof: Exampled `read-only-lines`.
+abbrev pub ReadOnlyLines : Type 0
+ReadOnlyLines = linesFrom (record { settings = settingsFrom blankPage; page = blankPage }) readOnlyExamples ≡ readOnlyExamples

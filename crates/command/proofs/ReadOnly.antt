@@ -24,7 +24,8 @@ use Rattle.command.specs.Effects.{Effect, fieldEffect, effectOn}
 use Rattle.command.specs.Numbers.{numberedKind, numberError}
 use Rattle.command.specs.Outcome.{Access, State, thenOutcome, denialOf, fieldWith, fieldOutcome, fieldsOutcome}
 use Rattle.command.specs.Handle.{fieldsIn, commandOn, commandOutcome, numberedOutcome, messageOutcome}
-use Rattle.command.specs.Readonly.{Leaves, ReadOnlyLeaves, FieldsReadOnly, MessagesReadOnly, noneAlters, ReadingAllowed}
+use Rattle.command.specs.Numbered.{Leaves}
+use Rattle.command.specs.ReadOnly.{ReadOnlyLeaves, FieldsReadOnly, MessagesReadOnly, noneAlters, ReadingAllowed}
 
 -- ---- one field
 
