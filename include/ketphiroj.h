@@ -156,8 +156,8 @@ ketphiroj_stepped ketphiroj_call_in_place(
  * A command has 1 to 16 fields, which are handled in their order as separate commands would be; an error of one does not stop
  * those after it. Where the fields do not fill the payload exactly, or are more than 16, nothing is done, and the error is 4.
  * The gyroscope's ranges on this board are 1 to 5. Function 1 with 6 or 7, and function 4 where the page keeps 6 or 7, are answered
- * with error 6, not on this board: the working range and the page stay as they are. (A missing number is 5 and a wrong size 4 before
- * that.) Function 3 writes the working range over the page's.
+ * with error 6, not on this board: the working range and the page stay as they are. (A missing number is 5, a function that the port
+ * may not use 7, and a wrong size 4, before that.) Function 3 writes the working range over the page's.
  * 0: a message was answered. Its reply is at the front of `room`: 4 bytes, payload, 2 bytes, where byte 3 is the length of the
  *    payload; the rest of the room is left alone. The payload has a row for each field of the command, or one row where its fields
  *    are not reached, see ketphiroj_read_reply. Where `saved`, the page was written anew and is to be stored before the reply is
@@ -286,7 +286,8 @@ ketphiroj_written ketphiroj_write_message(
  * Writes a command. Codes: 0x02 Ping, 0x01 baud rate, 0x07 accelerometer range, 0x08 gyroscope range. Functions: 1 sets the
  * value, 2 asks for it, 3 saves it, 4 loads the saved one, 5 loads the factory's. With Ping neither function nor value
  * is looked at; otherwise the value with function 1 alone, which must be one that this board works with: the gyroscope's ranges
- * 6 and 7 give 28. (The writer does not see the board's page: function 4 may still be answered with error 6.) Numbers: 0; 28, 18.
+ * 6 and 7 give 28. (The writer sees neither the board's page nor its profile: functions 1, 3, 4 and 5 may still be answered with
+ * error 5 or 7, and function 4 with 6.) Numbers: 0; 28, 18.
  */
 ketphiroj_written ketphiroj_write_command(uint8_t code, uint8_t function, uint32_t value, uint8_t *room, size_t room_length);
 

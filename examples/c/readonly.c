@@ -1,7 +1,7 @@
 /*
  * A read-only board: port 1 may ask for the settings and change nothing. First what port 1 is answered. Then the same
  * calls on port 0, once with nothing on port 1 and once with commands, numbered ones, saves and silences there: what port 0 sees
- * after each of its calls is the same. The exit status is 0 only where all of this holds.
+ * after each of its calls is the same. On a full board it is not. The exit status is 0 only where all of this holds.
  */
 #include "ketphiroj.h"
 
@@ -20,11 +20,11 @@ static void expect(bool holds, const char *what) {
     }
 }
 
-/* Starts a read-only board on a blank page. Its driver keeps no page here: no power is cut. */
-static void start(void) {
+/* Starts a board on a blank page. Its driver keeps no page here: no power is cut. */
+static void start(bool profile) {
     memset(page, 0xFF, sizeof page);
-    uint8_t number = ketphiroj_start_board(&board, KETPHIROJ_READONLY, page, sizeof page);
-    expect(number == KETPHIROJ_DONE && board.readonly, "a blank page is accepted, and the board is read-only");
+    uint8_t number = ketphiroj_start_board(&board, profile, page, sizeof page);
+    expect(number == KETPHIROJ_DONE && board.readonly == profile, "a blank page is accepted, and the board has its profile");
 }
 
 /* The rows of the reply in the room. */
@@ -69,7 +69,7 @@ static void numbered(uint8_t port, const char *what, uint32_t number, uint8_t co
 
 /* What port 1 is answered, and port 0 of the same board. */
 static void answers(void) {
-    start();
+    start(KETPHIROJ_READONLY);
     command(1, "Ping", 0x02, 0, 0);
     command(1, "asks for the gyroscope's range", 0x08, 2, 0);
     command(1, "sets it", 0x08, 1, 5);
@@ -120,13 +120,13 @@ static void disturb(void) {
 }
 
 /* The calls of port 0: a false header and a numbered save behind it, a silence to its end, a load without a number, and a report. */
-static void run(bool disturbed, seen calls[CALLS]) {
+static void run(bool profile, bool disturbed, seen calls[CALLS]) {
     static const uint8_t false_header[] = {0xA5, 0xA5, 0x01, 0xFF};
     uint8_t save[24], load[16], ask[16];
     size_t save_length = ketphiroj_write_numbered(7, 0x08, 3, 0, save, sizeof save).length;
     size_t load_length = ketphiroj_write_command(0x08, 4, 0, load, sizeof load).length;
     size_t ask_length = ketphiroj_write_command(0x08, 2, 0, ask, sizeof ask).length;
-    start();
+    start(profile);
     for (int i = 0; i < CALLS; i++) {
         if (disturbed) {
             disturb();
@@ -149,9 +149,11 @@ int main(void) {
     printf("a read-only board\n");
     answers();
 
-    static seen alone[CALLS], disturbed[CALLS];
-    run(false, alone);
-    run(true, disturbed);
+    static seen alone[CALLS], disturbed[CALLS], full[CALLS];
+    run(KETPHIROJ_READONLY, false, alone);
+    run(KETPHIROJ_READONLY, true, disturbed);
+    run(KETPHIROJ_FULL, true, full);
+    int differ = 0;
     printf("what port 0 sees, with nothing on port 1 and with much\n");
     for (int i = 0; i < CALLS; i++) {
         const ketphiroj_stepped *a = &alone[i].answer;
@@ -159,6 +161,9 @@ int main(void) {
         expect(equal, "port 0 sees nothing of port 1");
         printf("  number %u, taken %zu, skipped %zu, holds %zu%s: %s\n", a->number, a->taken, a->skipped, a->held,
             a->saved ? ", page written" : "", equal ? "the same" : "not the same");
+        differ += !same(&alone[i], &full[i]);
     }
+    printf("on a full board %d of %d are not\n", differ, CALLS);
+    expect(differ == CALLS, "on a full board port 0 sees all of it");
     return wrong != 0;
 }

@@ -263,11 +263,11 @@ impl Board {
     /// one row with error 4.
     ///
     /// The gyroscope's ranges on this board are 1 to 5. Function 1 with 6 or 7, and function 4 where the page keeps 6 or 7,
-    /// are answered with error 6, and the working range and the page stay as they are. (A missing number is 5 and a wrong
-    /// size 4 before that.) Function 3 writes the working range over the page's.
+    /// are answered with error 6, and the working range and the page stay as they are. (A missing number is 5, a function
+    /// that the port may not use 7, and a wrong size 4, before that.) Function 3 writes the working range over the page's.
     ///
     /// A numbered command (type 7C: a number of four bytes, then a command's type and its fields) is accepted on either
-    /// port where its number is fresh: larger than the one that the page keeps, or any where it keeps none. The number is
+    /// port of a full board where its number is fresh: larger than the one that the page keeps, or any where it keeps none. The number is
     /// then written to the page and the command is handled; the number is spent even where that gives an error. A number
     /// that is not fresh is answered with error 5, and nothing changes. As soon as the page keeps a number, port 0 answers
     /// with error 5 what would change something and has no number (functions 1, 3, 4 and 5); port 1 takes it. After

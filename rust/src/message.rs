@@ -78,7 +78,8 @@ pub fn write_message(kind: u8, payload: &[u8], room: &mut [u8]) -> Result<usize,
 /// the functions 2 to 5 without, Ping without both. What is not written is not looked at.
 ///
 /// Refuses with [`Refusal::Command`], also for the gyroscope's ranges 6 and 7, which this board does not have, and with
-/// [`Refusal::Room`]. (The writer does not see the board's page: function 4 may still be answered with error 6.)
+/// [`Refusal::Room`]. (The writer sees neither the board's page nor its profile: functions 1, 3, 4 and 5 may still be
+/// answered with error 5 or 7, and function 4 with 6.)
 ///
 /// ```
 /// use ketphiroj::{code, function, write_command, Refusal};
@@ -97,7 +98,8 @@ pub fn write_command(code: u8, function: u8, value: u32, room: &mut [u8]) -> Res
 /// Writes the numbered command of this code and function to the room's front, and gives its length: a message of type
 /// [`NUMBERED`] with the number, then the type and the field that [`write_command`] writes. A board accepts the number
 /// where it is larger than the one that its page keeps, or where the page keeps none, and then keeps it; whatever comes
-/// of the command, the number cannot be used again. For several fields see [`append_field`].
+/// of the command, the number cannot be used again. Port 1 of a read-only board accepts none. For several fields see
+/// [`append_field`].
 ///
 /// Refuses with [`Refusal::Command`] and [`Refusal::Room`].
 ///

@@ -25,8 +25,8 @@ fn brought(quiet: bool, chunk: &[u8]) -> usize
 }
 
 // A feed, or with `quiet` a silence, for a caller that keeps the board: `bytes` is the array of the named port, which is written in
-// place, `first` and `second` are the held counts of both ports, and the answer has the named port's held count and the settings
-// afterwards. A silence does not look at the chunk.
+// place, `first` and `second` are the held counts of both ports, `readonly` is the profile that the board was started in, and the
+// answer has the named port's held count and the settings afterwards. A silence does not look at the chunk.
 pub fn call_in_place(
     port: u8,
     bytes: &mut [u8],

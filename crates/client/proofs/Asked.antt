@@ -35,7 +35,7 @@ use Rattle.client.proofs.Commands.{about-back, subject-ping, subject-ab
 
 -- ---- a function of a setting
 
--- A command's error where no number is needed, and its effect.
+-- A command's error where nothing is denied, and its effect.
 pub record Does (c : Command) (n : (Setting → Stored) → ℕ) (e : (Setting → Stored) → Settings → Effect) : Type 0 where
   pub error : (loaded : Setting → Stored) → fieldError 0 loaded c ≡ n loaded
   pub effect : (loaded : Setting → Stored) (w : Settings) → effectOf 0 loaded w c ≡ e loaded w

@@ -46,11 +46,11 @@ outcomeBefore access x m =
 abbrev pub notOnBoardIn : {P : Type 0} → Access P → State P → Received → Bool
 notOnBoardIn access x m = notOnBoard (subjectOf (m .kind) (getD (m .payload) 0 0)) (access .loaded (x .page)) (oneCommand m)
 
--- What a message is handled to, now and before: one that is not of type 7C, on port 1 of the full profile. (On port 0 it is the same as long as the page
--- has no number: `WithoutNumber` in Numbered.)
+-- What a message is handled to, now and before: one that is not of type 7C, on port 1 of the full profile. (On port 0 it is the same as
+-- long as the page has no number: `WithoutNumber` in Numbered.)
 pub record NowAndBefore {P : Type 0} (access : Access P) (x : State P) (m : Received) : Type 0 where
-  -- One field, no field, wrong sums, another type: as before, but for a value that is not on this board. (What function 4 loaded from a page with
-  -- 06 or 07 is not said here: `loaded` is today's.)
+  -- One field, no field, wrong sums, another type: as before, but for a value that is not on this board. (What function 4 loaded from a
+  -- page with 06 or 07 is not said here: `loaded` is today's.)
   pub one-field : (f : Field) → fieldsOf (m .payload) ≡ some (f ∷ []) → notOnBoardIn access x m ≡ false → messageOutcome access allRights x m ≡ outcomeBefore access x m
   -- Where it is not, what was refused before is refused as before, and what was accepted is 6 now, and changes nothing.
   pub refused-before : (f : Field) → fieldsOf (m .payload) ≡ some (f ∷ []) → (errorBefore m ≡ 0 → ⊥) → messageOutcome access allRights x m ≡ outcomeBefore access x m

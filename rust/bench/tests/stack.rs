@@ -20,7 +20,8 @@ const MOST_OF_A_CALL: usize = 256;
 /// port, 260 bytes, beside it; with that of a second port it is over the limit.
 const MOST_OF_A_START: usize = 512;
 
-/// The port that is fed or silent: port 1 takes commands without a number on every page.
+/// The port that is fed or silent: in the full profile, in which these boards are started, port 1 takes commands without
+/// a number on every page.
 const PORT: u8 = 1;
 
 /// What a feed is given, or a silence, whose chunk is empty.

@@ -295,12 +295,15 @@ pub enum Fault {
     FeedLosesProfile,
     RefusedFeedLosesProfile,
     SilenceLosesProfile,
+    RefusedSilenceLosesProfile,
     ProfileIgnored,
     SilenceIgnoresProfile,
     ProfileOfLastStart,
-    // Found in two runs alone: what port 0 sees of port 1, and a plain reading that is started in the other profile.
+    // Looked for in two runs: what port 0 sees of port 1; a plain reading that is started in the other profile; and both in that
+    // one, so that they agree and the two runs do not.
     SkippedOfOtherPort,
     PlainIsFull,
+    BothAreFull,
     // Found in starts in place.
     SecondPortKept,
     LastByteKept,
@@ -453,8 +456,11 @@ impl Calls for Planted {
         let before = Before { port, board, chunk: &[], room: room.to_vec(), page: page.to_vec() };
         let fed = rights::silence_in_another(self.0, self.1.get(), &before, room, page);
         let mut fed = fed.unwrap_or_else(|| silencing::silence(self.0, &before, room, page));
-        if self.is(Fault::SilenceLosesProfile) && fed.number < 16 {
-            fed.board.readonly = false;
+        match (self.0, fed.number) {
+            (Fault::SilenceLosesProfile, 0 | 1) | (Fault::RefusedSilenceLosesProfile, 16..) => {
+                fed.board.readonly = false
+            }
+            _ => {}
         }
         fed
     }
@@ -614,10 +620,10 @@ impl Calls for Planted {
     }
 
     fn plain_profile(&self, profile: plain::Profile) -> plain::Profile {
-        if self.is(Fault::PlainIsFull) {
-            return plain::Profile::Full;
+        match self.0 {
+            Fault::PlainIsFull | Fault::BothAreFull => plain::Profile::Full,
+            _ => profile,
         }
-        profile
     }
 }
 

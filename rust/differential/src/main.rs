@@ -179,7 +179,7 @@ impl Group {
                 &[0, 1, 16, 18]
             }
             Group::HostileLists => &[0, 1, 16, 18],
-            Group::TwoRuns => &[0, 1, 18],
+            Group::TwoRuns => &[0, 1, 16, 18, 19, 20],
             Group::ReadOnlyCommands => &[0],
             Group::ProfileStarts => &[0, 1, 16, 17, 18, 19, 20],
             Group::FalseHeaders => &[0, 1],
@@ -275,7 +275,7 @@ impl Group {
 }
 
 /// Each planted fault, and the group that is to find it.
-const FAULTS: [(Fault, Group); 326] = [
+const FAULTS: [(Fault, Group); 329] = [
     (Fault::ReplyOfError4, Group::Lists),
     (Fault::RoomPastTheReply, Group::Lists),
     (Fault::SkippedOfHeldMessage, Group::Lists),
@@ -593,12 +593,15 @@ const FAULTS: [(Fault, Group); 326] = [
     (Fault::RefusedFeedLosesProfile, Group::HostileLists),
     (Fault::SilenceLosesProfile, Group::DrainedSilences),
     (Fault::SilenceLosesProfile, Group::SilentBoards),
+    (Fault::RefusedSilenceLosesProfile, Group::HostileLists),
+    (Fault::RefusedSilenceLosesProfile, Group::SilentBoards),
     (Fault::ProfileIgnored, Group::ReadOnlyCommands),
     (Fault::ProfileIgnored, Group::Lists),
     (Fault::SilenceIgnoresProfile, Group::HostileLists),
     (Fault::ProfileOfLastStart, Group::ProfileStarts),
     (Fault::SkippedOfOtherPort, Group::TwoRuns),
     (Fault::PlainIsFull, Group::TwoRuns),
+    (Fault::BothAreFull, Group::TwoRuns),
     (Fault::WrappedProfileIgnored, Group::ProfileStarts),
     (Fault::WrappedProfileKept, Group::ProfileStarts),
     (Fault::WrappedProfileTold, Group::StartsInPlace),

@@ -168,11 +168,12 @@ fn same_seen(what: &str, first: &[Seen], second: &[Seen]) -> Outcome {
 }
 
 /// 02-12.3, 02-12.4: two runs from one start of a read-only board, with the same calls of port 0, of the library alone; and one
-/// of them is what the plain reading gives.
+/// of them is what the plain reading gives. A start in sixteen is on a page of any kind, and may be refused.
 pub fn two_runs(calls: &impl Calls, rng: &mut Rng, ran: &mut Ran) -> Outcome {
     let page = silences::page(rng);
     let pieces = rng.between(1, 6);
     let turns = readonly::two_runs(rng, &page, pieces);
+    let page = if rng.chance(1, 16) { generate::page(rng) } else { page.to_vec() };
     let start = Start { profile: Profile::ReadOnly, page: &page };
     or_shrink(start, &turns, ran, |turns, ran| both_runs(calls, start, turns, ran))
 }

@@ -152,7 +152,7 @@ pub fn start(fault: Fault, readonly: bool, page: &[u8]) -> Started {
     let mut started = ffi::start(readonly, page);
     match fault {
         Fault::RefusedStartLosesProfile if started.number != 0 => started.board.readonly = false,
-        Fault::StartIgnoresProfile => started.board.readonly = false,
+        Fault::StartIgnoresProfile | Fault::BothAreFull => started.board.readonly = false,
         _ => {}
     }
     started
@@ -198,7 +198,7 @@ fn in_profile(readonly: bool, board: Board, call: impl FnOnce(Board) -> Fed) -> 
 /// Faults in the profile that a call leaves, and in what of port 1 a call of port 0 lets be seen.
 pub fn change_answer(fault: Fault, before: &Before, fed: &mut Fed) {
     match (fault, fed.number) {
-        (Fault::FeedLosesProfile, 0) | (Fault::RefusedFeedLosesProfile, 16..) => fed.board.readonly = false,
+        (Fault::FeedLosesProfile, 0 | 1) | (Fault::RefusedFeedLosesProfile, 16..) => fed.board.readonly = false,
         (Fault::SkippedOfOtherPort, 1) if before.port == 0 && before.board.second.held > 4 => fed.skipped += 1,
         _ => {}
     }

@@ -171,8 +171,7 @@ fn refused_functions(profile: Profile, port: u8, values: &Values) -> Option<u8> 
 
 /// The error of one field of a command of type 01 or 02, on a page with these values: the rest of 01-026's table, which a
 /// separate message with this field alone would come to. Where functions 1, 3, 4 and 5 are refused, it is with the error
-/// given. 02-03.11: "error 5 stands after 3 and before a field's own 4." 02-12.7: error 7, "after 3 and before a field's own
-/// 4 to 6".
+/// given.
 fn field_error(kind: u8, field: &Part, refused: Option<u8>, values: &Values) -> u8 {
     let code = field.code;
 
@@ -187,14 +186,17 @@ fn field_error(kind: u8, field: &Part, refused: Option<u8>, values: &Values) -> 
     }
 
     // "A setting's data is a function, then the value"
-    let Some((function, value)) = field.data.split_first() else {
-        return 4;
-    };
-
-    if let Some(error) = refused.filter(|_| [1, 3, 4, 5].contains(function)) {
-        return error;
+    match (field.data.split_first(), refused) {
+        (None, _) => 4,
+        // 02-03.11: "error 5 stands after 3 and before a field's own 4." 02-12.7: error 7, "after 3 and before a field's
+        // own 4 to 6".
+        (Some((1 | 3 | 4 | 5, _)), Some(error)) => error,
+        (Some((&function, value)), _) => setting_error(code, function, value, values),
     }
+}
 
+/// The error of a setting's field with this function and the bytes behind it, where it is not refused.
+fn setting_error(code: u8, function: u8, value: &[u8], values: &Values) -> u8 {
     // "4 | [..] size wrong; function not 1 to 5"
     let value_size = value_size(code).expect("a setting has a value");
     let right = match function {

@@ -78,7 +78,7 @@ pub enum Run {
     Second,
 }
 
-/// A call of port 0, which is made in both runs, or one of port 1 in one of them.
+/// A call of port 0, which is made in both runs, or one of port 1, or of no port, in one of them.
 #[derive(Clone, Debug, PartialEq, Eq)]
 pub struct Turn {
     pub run: Run,
@@ -113,12 +113,12 @@ pub fn calls_of(turns: &[Turn], run: Run) -> Vec<Step> {
 }
 
 /// Two runs from one start on this page, which is blank or sound. 02-12.3: "the same feeds, silences and room lengths on port
-/// 0, and anything at all on port 1": the turns of port 1 stand anywhere between those of port 0.
+/// 0, and anything at all on port 1": the turns of port 1, and those that name no port, stand anywhere between those of port 0.
 pub fn two_runs(rng: &mut Rng, page: &[u8], pieces: usize) -> Vec<Turn> {
     let mut waiting = [(0, Run::Both), (1, Run::First), (1, Run::Second)].map(|(port, run)| {
         // About half of the pieces of a list are port 0's.
         let mut steps = history(rng, page, 2 * pieces);
-        steps.retain(|step| step.port_and_room().is_some_and(|(named, _)| named == port));
+        steps.retain(|step| step.port_and_room().is_some_and(|(named, _)| named.min(1) == port));
         // One run in four has nothing on port 1.
         if port == 1 && rng.chance(1, 4) {
             steps.clear();
