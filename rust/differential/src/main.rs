@@ -35,7 +35,12 @@ use faults::{Fault, Planted};
 use group::{Outcome, Ran};
 use lists::Beside;
 use plain::generate::Rng;
+use std::collections::BTreeMap;
+use std::num::NonZero;
 use std::process::ExitCode;
+use std::sync::atomic::{AtomicUsize, Ordering};
+use std::sync::mpsc;
+use std::thread;
 use std::time::{Instant, SystemTime, UNIX_EPOCH};
 
 /// A group of cases.
@@ -607,23 +612,6 @@ const FAULTS: [(Fault, Group); 329] = [
     (Fault::WrappedProfileTold, Group::StartsInPlace),
 ];
 
-/// The checks that passed and failed.
-#[derive(Default)]
-struct Tally {
-    passed: u64,
-    failed: u64,
-}
-
-impl Tally {
-    fn check(&mut self, passed: bool) {
-        if passed {
-            self.passed += 1;
-        } else {
-            self.failed += 1;
-        }
-    }
-}
-
 fn number_from(name: &str) -> Option<u64> {
     let text = std::env::var(name).ok()?;
     Some(text.parse().unwrap_or_else(|_| panic!("{name}={text} is not a number")))
@@ -634,8 +622,14 @@ fn any_seed() -> u64 {
     SystemTime::now().duration_since(UNIX_EPOCH).map_or(0, |since| since.as_nanos() as u64)
 }
 
-/// Runs a group on the library as it is, and prints what it ran.
-fn compare(group: Group, seed: u64, scale: u64, tally: &mut Tally) {
+/// What a check found: whether it passed, and what is printed of it.
+struct Found {
+    passed: bool,
+    text: String,
+}
+
+/// Runs a group on the library as it is.
+fn compare(group: Group, seed: u64, scale: u64) -> Found {
     let begin = Instant::now();
     let mut ran = Ran::default();
     let cases = (group.cases() * scale / 100).max(1);
@@ -643,24 +637,26 @@ fn compare(group: Group, seed: u64, scale: u64, tally: &mut Tally) {
     // A short run may miss a number.
     let reached = if scale >= 100 { ran.reached(group.numbers()) } else { Ok(()) };
     let seconds = begin.elapsed().as_secs_f64();
-    tally.check(result.is_ok() && reached.is_ok());
-    match result {
-        Ok(()) => println!("{group:?}: {cases} cases, {} calls compared, {seconds:.1} s", ran.calls),
-        Err((place, text)) => println!("DIFFERENCE in {group:?}, case {place}, SEED={seed}\n  {text}"),
+    let passed = result.is_ok() && reached.is_ok();
+    let mut text = match result {
+        Ok(()) => format!("{group:?}: {cases} cases, {} calls compared, {seconds:.1} s", ran.calls),
+        Err((place, text)) => format!("DIFFERENCE in {group:?}, case {place}, SEED={seed}\n  {text}"),
+    };
+    if let Err(missed) = reached {
+        text += &format!("\nFAILED: {group:?}: {missed}");
     }
-    if let Err(text) = reached {
-        println!("FAILED: {group:?}: {text}");
-    }
+    Found { passed, text }
 }
 
 /// Runs the group that is to find a fault with the fault in it.
-fn plant(fault: Fault, group: Group, seed: u64, tally: &mut Tally) {
+fn plant(fault: Fault, group: Group, seed: u64) -> Found {
     let found = group.run(&Planted::new(fault), seed, group.cases(), &mut Ran::default());
-    tally.check(found.is_err());
-    match found {
-        Ok(()) => println!("FAILED: the planted fault {fault:?} was not found in {group:?}"),
-        Err((place, text)) => println!("planted {fault:?}: found in {group:?}, case {place}{}", shortest(&text)),
-    }
+    let passed = found.is_err();
+    let text = match found {
+        Ok(()) => format!("FAILED: the planted fault {fault:?} was not found in {group:?}"),
+        Err((place, text)) => format!("planted {fault:?}: found in {group:?}, case {place}{}", shortest(&text)),
+    };
+    Found { passed, text }
 }
 
 /// How short the list of a difference became.
@@ -672,19 +668,50 @@ fn shortest(text: &str) -> String {
     }
 }
 
+/// Makes the checks of these places, some at a time, and gives each with its place as soon as it is made.
+fn in_threads(places: usize, check: impl Fn(usize) -> Found + Sync, mut made: impl FnMut(usize, Found)) {
+    let (sender, receiver) = mpsc::channel();
+    let next = AtomicUsize::new(0);
+    let (next, check) = (&next, &check);
+    thread::scope(|scope| {
+        for _ in 0..thread::available_parallelism().map_or(1, NonZero::get) {
+            let sender = sender.clone();
+            scope.spawn(move || {
+                let taken = std::iter::repeat_with(|| next.fetch_add(1, Ordering::Relaxed));
+                for place in taken.take_while(|&place| place < places) {
+                    sender.send((place, check(place))).expect("the results are received");
+                }
+            });
+        }
+        drop(sender);
+        receiver.iter().for_each(|(place, found)| made(place, found));
+    });
+}
+
+/// Each group on the library as it is, then each fault in its group. They are printed in this order.
 fn main() -> ExitCode {
     let seed = number_from("SEED").unwrap_or_else(any_seed);
     let scale = number_from("SCALE").unwrap_or(100);
     println!("SEED={seed}");
-    let mut tally = Tally::default();
-    for group in GROUPS {
-        compare(group, seed, scale, &mut tally);
-    }
-    for (fault, group) in FAULTS {
-        plant(fault, group, seed, &mut tally);
-    }
-    println!("{} passed, {} failed", tally.passed, tally.failed);
-    if tally.failed == 0 {
+    let check = |place: usize| match GROUPS.get(place) {
+        Some(&group) => compare(group, seed, scale),
+        None => {
+            let (fault, group) = FAULTS[place - GROUPS.len()];
+            plant(fault, group, seed)
+        }
+    };
+    let (mut waiting, mut printed, mut passed) = (BTreeMap::new(), 0, 0);
+    in_threads(GROUPS.len() + FAULTS.len(), check, |place, found| {
+        waiting.insert(place, found);
+        while let Some(found) = waiting.remove(&printed) {
+            println!("{}", found.text);
+            printed += 1;
+            passed += usize::from(found.passed);
+        }
+    });
+    let failed = GROUPS.len() + FAULTS.len() - passed;
+    println!("{passed} passed, {failed} failed");
+    if failed == 0 {
         ExitCode::SUCCESS
     } else {
         ExitCode::FAILURE
