@@ -84,11 +84,13 @@ reads-only x m = read-only-leaves (List ℕ) pageAccess x (receivedOf (m .good) 
 abbrev seenAs : SeenOf Kept → Seen
 seenAs s =
     record {
-      number = s .answer .number;
-      taken = s .answer .taken;
-      skipped = s .answer .skipped;
-      saved = s .answer .saved;
-      reply = s .answer .reply;
+      out = record {
+        number = s .answer .number;
+        taken = s .answer .taken;
+        skipped = s .answer .skipped;
+        saved = s .answer .saved;
+        reply = s .answer .reply;
+      };
       held = s .held;
       settings = s .values .settings;
       page = s .values .page;

@@ -1,6 +1,6 @@
 -- Request 12: what port 0 sees of a board that was started read-only, and what port 1 does to it. Each statement names its proof, a term of
 -- that type in a file of proofs/.
-use mathlib.Core.Bool.{Bool, false}
+use mathlib.Core.Bool.{false}
 use mathlib.Core.List.{List, [], _∷_}
 use mathlib.Core.Path.{_≡_}
 use Prim.Native.Nat.{ℕ, suc}
@@ -13,7 +13,7 @@ use Rattle.board.specs.Profile.{readOnly}
 use Rattle.board.specs.Port.{heldBytes}
 use Rattle.board.specs.Start.{startOf}
 use Rattle.board.specs.Feed.{Feeding, callOf}
-use Rattle.board.specs.Runs.{Call, callsFrom, toldOf, replyIn}
+use Rattle.board.specs.Runs.{Call, callsFrom, toldOf, Out, outOf}
 
 -- ---- port 1 changes nothing
 
@@ -33,29 +33,15 @@ SecondReads =
 -- ---- two runs
 
 -- What port 0 sees after one of its calls: "port 0's replies, save marks, counts, numbers and held bytes, the working settings and the
--- page". Of the room it is the reply: its other bytes may differ.
+-- page".
 pub record Seen : Type 0 where
-  pub number : ℕ
-  pub taken : ℕ
-  pub skipped : ℕ
-  pub saved : Bool
-  pub reply : List ℕ
+  pub out : Out
   pub held : List ℕ
   pub settings : Settings
   pub page : List ℕ
 
 abbrev pub seenOf : Feeding → Seen
-seenOf f =
-    record {
-      number = f .answer .number;
-      taken = f .answer .taken;
-      skipped = f .answer .skipped;
-      saved = f .answer .saved;
-      reply = replyIn (f .answer .number) (f .room);
-      held = heldBytes (f .answer .board .first);
-      settings = f .answer .board .settings;
-      page = f .page;
-    }
+seenOf f = record { out = outOf f; held = heldBytes (f .answer .board .first); settings = f .answer .board .settings; page = f .page }
 
 -- One for each call of port 0, in order, by the calls' own answers.
 abbrev pub seenBy : List Call → List Feeding → List Seen

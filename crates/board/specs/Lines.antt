@@ -11,9 +11,9 @@ use Rattle.page.specs.Page.{filled}
 use Rattle.command.specs.declared.settings.Settings.{Settings}
 use Rattle.board.specs.Profile.{Profile}
 use Rattle.board.specs.Feed.{Feeding}
-use Rattle.board.specs.Runs.{Call, Calls}
+use Rattle.board.specs.Runs.{Call, Calls, Out, outOf}
 use Rattle.board.specs.Histories.{actsOn, acceptedOn}
-use Rattle.board.specs.Samples.{Out, done, saves, outOf}
+use Rattle.board.specs.Samples.{done, saves}
 
 -- A call: the port, the chunk or a silence, and what it gives.
 pub record Sent : Type 0 where

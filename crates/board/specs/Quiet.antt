@@ -9,7 +9,7 @@ use Rattle.history.specs.Restarts.{Act, call, restart, drainedHistory}
 use Rattle.message.specs.Message.{messageOf}
 use Rattle.page.specs.Page.{filled, blankPage}
 use Rattle.board.specs.Profile.{Profile, full}
-use Rattle.board.specs.Samples.{Out, ends}
+use Rattle.board.specs.Samples.{ends, refused}
 use Rattle.board.specs.Histories.{actsOn}
 use Rattle.board.specs.Restarts.{toldActs}
 use Rattle.board.specs.Theorems.{answersOf}
@@ -30,9 +30,6 @@ finds port skipped saved reply =
 
 abbrev drains : ℕ → ℕ → Act Profile Sent
 drains port skipped = call (record { port = port; input = silent; out = ends 0 skipped })
-
-abbrev refusedPort : Out
-refusedPort = record { number = 16; taken = 0; skipped = 0; saved = false; reply = [] }
 
 abbrev pingMessage : List ℕ
 pingMessage = messageOf 0x01 ping
@@ -111,8 +108,8 @@ quietExamples =
           waits 1 (falseHeader ++ (pingMessage ++ falseHeader))
           ∷ finds 1 4 false (messageOf 0x01 (row 0x02 0))
           ∷ plain 0 pingMessage (messageOf 0x01 (row 0x02 0))
-          ∷ call (record { port = 2; input = fed pingMessage; out = refusedPort })
-          ∷ call (record { port = 2; input = silent; out = refusedPort })
+          ∷ call (record { port = 2; input = fed pingMessage; out = refused 16 })
+          ∷ call (record { port = 2; input = silent; out = refused 16 })
           ∷ drains 1 4
           ∷ plain 1 pingMessage (messageOf 0x01 (row 0x02 0))
           ∷ [];

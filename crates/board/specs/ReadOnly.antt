@@ -12,6 +12,7 @@ use Rattle.message.specs.Message.{messageOf}
 use Rattle.page.specs.Page.{filled, blankPage}
 use Rattle.board.specs.Profile.{full, readOnly}
 use Rattle.board.specs.Runs.{Call, toldOf}
+use Rattle.board.specs.Samples.{ends, refused}
 use Rattle.board.specs.Lines.{Line, plain, marks, numbered, ping, sets, does, row, rowWith, working, numberPage, linesFor}
 use Rattle.board.specs.Interference.{Seen, seenOn}
 
@@ -86,17 +87,13 @@ numberedPage = filled (0x02 ∷ 0x08 ∷ 0x07 ∷ 0x01 ∷ 0x70 ∷ 0x08 ∷ 0x0
 abbrev seenThere : List Seen
 seenThere =
     record {
-      number = 0;
-      taken = 19;
-      skipped = 1;
-      saved = true;
-      reply = messageOf 0x7C (row 0x08 0 ++ row 0x08 0);
+      out = record { number = 0; taken = 19; skipped = 1; saved = true; reply = messageOf 0x7C (row 0x08 0 ++ row 0x08 0) };
       held = [];
       settings = working 0x02 0x05;
       page = numberedPage;
     }
-    ∷ record { number = 1; taken = 1; skipped = 0; saved = false; reply = []; held = 0xA5 ∷ []; settings = working 0x02 0x05; page = numberedPage }
-    ∷ record { number = 18; taken = 0; skipped = 0; saved = false; reply = []; held = 0xA5 ∷ []; settings = working 0x02 0x05; page = numberedPage }
+    ∷ record { out = ends 1 0; held = 0xA5 ∷ []; settings = working 0x02 0x05; page = numberedPage }
+    ∷ record { out = refused 18; held = 0xA5 ∷ []; settings = working 0x02 0x05; page = numberedPage }
     ∷ []
 
 -- For each line's page and calls what the line says; and of both lists, whose calls of port 0 are the same, port 0 sees these rows. Proof:

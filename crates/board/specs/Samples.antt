@@ -1,6 +1,6 @@
 -- Document 01, "Sample lines": the P rows as a single table, with a single statement about what the rules give for it. Each
 -- starts on a fresh board with a blank page, port 0, and a room of 166 bytes.
-use mathlib.Core.Bool.{Bool, true, false}
+use mathlib.Core.Bool.{true, false}
 use mathlib.Core.List.{List, [], _∷_, _++_}
 use mathlib.Core.Path.{_≡_}
 use Prim.Native.Nat.{ℕ}
@@ -11,15 +11,7 @@ use Rattle.page.specs.Page.{noValues, blankPage}
 use Rattle.board.specs.Profile.{Profile}
 use Rattle.board.specs.Port.{heldBytes}
 use Rattle.board.specs.Feed.{Feeding}
-use Rattle.board.specs.Runs.{Call, Calls, callsOn, replyIn}
-
--- What one feed gives.
-pub record Out : Type 0 where
-  pub number : ℕ
-  pub taken : ℕ
-  pub skipped : ℕ
-  pub saved : Bool
-  pub reply : List ℕ
+use Rattle.board.specs.Runs.{Call, Calls, callsOn, Out, outOf}
 
 -- A line: the chunks fed; what each feed gives; the bytes held and the page at the end.
 pub record Line : Type 0 where
@@ -38,6 +30,9 @@ saves taken reply = record { number = 0; taken = taken; skipped = 0; saved = tru
 
 abbrev pub ends : ℕ → ℕ → Out
 ends taken skipped = record { number = 1; taken = taken; skipped = skipped; saved = false; reply = [] }
+
+abbrev pub refused : ℕ → Out
+refused number = record { number = number; taken = 0; skipped = 0; saved = false; reply = [] }
 
 -- A line of one feed that takes its chunk whole and leaves nothing held and the page blank.
 abbrev line : List ℕ → List ℕ → Line
@@ -109,16 +104,6 @@ samples =
 abbrev callsWith : List (List ℕ) → List Call
 callsWith [] = []
 callsWith (c ∷ cs) = record { port = 0; input = fed c; room = replicate 166 0 } ∷ callsWith cs
-
-abbrev pub outOf : Feeding → Out
-outOf f =
-    record {
-      number = f .answer .number;
-      taken = f .answer .taken;
-      skipped = f .answer .skipped;
-      saved = f .answer .saved;
-      reply = replyIn (f .answer .number) (f .room);
-    }
 
 abbrev pub outsOf : List Feeding → List Out
 outsOf [] = []
