@@ -1,6 +1,7 @@
 pub mod Accounts
 pub mod Demand
 pub mod Driven
+pub mod Grows
 pub mod Interference
 pub mod Numbers
 pub mod Ports

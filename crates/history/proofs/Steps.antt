@@ -96,7 +96,7 @@ module _ {front : List ℕ → Verdict} {mostHeld : ℕ} (C : Cutting front most
         answer = cc (i .this, i .len, skip, o .reply, o .saved);
         port =
             rw (i .read)
-            (grow C l h t (skipsThen k m) (resume k n good) (suc (l .count)) r (standing-skipsThen k n m size) (fit .0)
+            (grow C l h t (skipsThen k m) (resume k n good) (suc (l .count)) _ r (standing-skipsThen k n m size) (fit .0)
             (found-goes C u k n good (i .here)) (fit .1) (one-more l h k m r));
         values = rw (i .this) (o .next);
       }
@@ -115,7 +115,7 @@ module _ {front : List ℕ → Verdict} {mostHeld : ℕ} (C : Cutting front most
         answer = cc skip;
         port =
             rw read
-            (grow C l h chunk (skips k) k (l .count) r (omega (arith, skippedIn-skips k, goodIn-skips k)) inside (s .goes)
+            (grow C l h chunk (skips k) k (l .count) _ r (omega (arith, skippedIn-skips k, goodIn-skips k)) inside (s .goes)
             (s .few) (no-more l h k r));
         values = lw;
       }
@@ -154,7 +154,7 @@ module _ {front : List ℕ → Verdict} {mostHeld : ℕ} (C : Cutting front most
         answer = cc (i .this, none-taken, skip, o .reply, o .saved);
         port =
             rw (i .read)
-            (drained-tracks C l h (skipsThen k m) (resume k n good) (suc (l .count)) r (standing-skipsThen k n m size)
+            (drained-tracks C l h (skipsThen k m) (resume k n good) (suc (l .count)) _ r (standing-skipsThen k n m size)
             (resume-inside k n (length h) good (s .some) (s .inside)) (i .rest) (one-more l h k m r));
         values = rw (i .this) (o .next);
       })
@@ -181,7 +181,7 @@ module _ {front : List ℕ → Verdict} {mostHeld : ℕ} (C : Cutting front most
         length-append (r .before) h,
       )) in
       let left : drop k (h ++ []) ≡ [] = rw (append-nil h, i .all) (drop-length h) in
-      record { answer = cc skip; port = rw left (quiet-tracks C l h (l .count) r all count); values = lw }
+      record { answer = cc skip; port = rw left (quiet-tracks C l h (l .count) _ r all count); values = lw }
 
   silence-alike : {b : Bool} (p : ℕ) (l : Ledger) (h : List ℕ) (v : X) (w : W) → Tracks C b l h → L v w
       → Alike (Tracks C) L (undrainedBy silent (reckonFeed front reckoned p (marked l) v [] .answer .number) b)

@@ -74,12 +74,12 @@ module _ {front : List ℕ → Verdict} {mostHeld : ℕ} (C : Cutting front most
   held-is l h r = rw (r .split) (drop-at (r .before) h (standing (l .read)) (r .place))
 
   -- A feed takes t, and the scan goes on by the events `new`, over a bytes.
-  pub grow : (l : Ledger) (h t : List ℕ) (new : List Event) (a c : ℕ) → Tracks false l h → standing new ≡ a → a ≤ length (h ++ t)
+  pub grow : (l : Ledger) (h t : List ℕ) (new : List Event) (a c : ℕ) (rs : List (List ℕ)) → Tracks false l h → standing new ≡ a → a ≤ length (h ++ t)
       → ((e : End) (v : List ℕ) → events (upTo e front) (h ++ t ++ v) ≡ new ++ events (upTo e front) (drop a (h ++ t) ++ v))
       → length (drop a (h ++ t)) ≤ mostHeld
       → length (messages (l .read ++ new)) ≡ c
-      → Tracks false (record { stream = extend (l .stream) t; count = c; read = l .read ++ new }) (drop a (h ++ t))
-  grow l h t new a c r s inside goes few counted =
+      → Tracks false (record { stream = extend (l .stream) t; count = c; read = l .read ++ new; replies = rs }) (drop a (h ++ t))
+  grow l h t new a c rs r s inside goes few counted =
       record {
         before = r .before ++ take a (h ++ t);
         split = bytes-extend (l .stream) t ∙ rw (r .split) (simp (append-assoc, take-append-drop));
@@ -96,7 +96,7 @@ module _ {front : List ℕ → Verdict} {mostHeld : ℕ} (C : Cutting front most
       before : Flows l h
       before = r .flows refl
 
-      after : Flows (record { stream = extend (l .stream) t; count = c; read = l .read ++ new }) (drop a (h ++ t))
+      after : Flows (record { stream = extend (l .stream) t; count = c; read = l .read ++ new; replies = rs }) (drop a (h ++ t))
       after e v =
           cc (
             append-assoc (l .stream .current) t v,
@@ -301,11 +301,11 @@ module _ {front : List ℕ → Verdict} {mostHeld : ℕ} (C : Cutting front most
       record { all = drain-all C h k e; none-found = rw no-more; read = all }
 
   -- The port after a silence that reported a message: the held bytes go on behind it, up to the mark.
-  pub drained-tracks : {b : Bool} (l : Ledger) (h : List ℕ) (new : List Event) (a c : ℕ) → Tracks b l h → standing new ≡ a → a ≤ length h
+  pub drained-tracks : {b : Bool} (l : Ledger) (h : List ℕ) (new : List Event) (a c : ℕ) (rs : List (List ℕ)) → Tracks b l h → standing new ≡ a → a ≤ length h
       → scan front (mark (l .stream)) ≡ l .read ++ new ++ events (upTo ended front) (drop a h)
       → length (messages (l .read ++ new)) ≡ c
-      → Tracks true (record { stream = mark (l .stream); count = c; read = l .read ++ new }) (drop a h)
-  drained-tracks l h new a c r s inside goes counted =
+      → Tracks true (record { stream = mark (l .stream); count = c; read = l .read ++ new; replies = rs }) (drop a h)
+  drained-tracks l h new a c rs r s inside goes counted =
       record {
         before = r .before ++ take a h;
         split = bytes-mark (l .stream) ∙ rw (r .split) (simp (append-assoc, take-append-drop));
@@ -319,10 +319,10 @@ module _ {front : List ℕ → Verdict} {mostHeld : ℕ} (C : Cutting front most
       }
 
   -- The port after a silence that left nothing: the scan starts anew behind the mark.
-  pub quiet-tracks : {b : Bool} (l : Ledger) (h : List ℕ) (c : ℕ) → Tracks b l h → standing (scan front (mark (l .stream))) ≡ length (bytesIn (l .stream))
+  pub quiet-tracks : {b : Bool} (l : Ledger) (h : List ℕ) (c : ℕ) (rs : List (List ℕ)) → Tracks b l h → standing (scan front (mark (l .stream))) ≡ length (bytesIn (l .stream))
       → length (messages (scan front (mark (l .stream)))) ≡ c
-      → Tracks false (record { stream = mark (l .stream); count = c; read = scan front (mark (l .stream)) }) []
-  quiet-tracks l h c r all counted =
+      → Tracks false (record { stream = mark (l .stream); count = c; read = scan front (mark (l .stream)); replies = rs }) []
+  quiet-tracks l h c rs r all counted =
       record {
         before = bytesIn (l .stream);
         split = cc (bytes-mark (l .stream), append-nil (bytesIn (l .stream)));
@@ -335,5 +335,5 @@ module _ {front : List ℕ → Verdict} {mostHeld : ℕ} (C : Cutting front most
         few = omega arith;
       }
     where
-      flows : Flows (record { stream = mark (l .stream); count = c; read = scan front (mark (l .stream)) }) []
+      flows : Flows (record { stream = mark (l .stream); count = c; read = scan front (mark (l .stream)); replies = rs }) []
       flows e v = scan-past-mark front e (l .stream) v
