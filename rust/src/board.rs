@@ -2,6 +2,7 @@
 
 use crate::ffi::{self, Stepped};
 use crate::refusal::{done_or_refused, refusal_of, Refusal};
+use crate::tally::Tally;
 
 /// The bytes that a port holds: the first `held` of the array, of an undecided message or not yet looked at.
 ///
@@ -116,11 +117,11 @@ impl Profile {
     }
 }
 
-/// The board's state between two calls: two ports, the working values and the profile.
+/// The board's state between two calls: two ports, the working values, the profile, and the totals of each port.
 ///
 /// It is plain data, to be kept, copied and sent as one likes. The next feed or silence refuses it ([`Refusal::Unsound`]) where a
 /// held count, of either port, is over 260 or a value is none that this board works with. Any held bytes are accepted,
-/// and any bytes past them.
+/// any bytes past them, and any totals.
 #[derive(Clone, Copy, Debug, PartialEq, Eq)]
 #[repr(C)]
 pub struct Board {
@@ -132,6 +133,10 @@ pub struct Board {
     pub settings: Settings,
     /// Whether it is read-only: [`Board::profile`] as the C interface has it. A start puts it here, and the calls only read it.
     pub readonly: bool,
+    /// The totals of port 0 since the start. A feed or a silence counts in those of its own port, and leaves the other's alone.
+    pub tally0: Tally,
+    /// The totals of port 1 since the start.
+    pub tally1: Tally,
 }
 
 /// What an accepted feed did, or an accepted silence, which takes no byte.
@@ -147,6 +152,8 @@ pub enum Outcome {
         /// Whether a save was accepted, of any field, or a fresh number was taken; the page has then been written, and is
         /// to be stored before the reply is sent.
         saved: bool,
+        /// The first error in the reply, 0 to 7: of a command with several fields the first row's.
+        error: u8,
         /// The length of the reply at the front of the room.
         reply: usize,
     },
@@ -211,14 +218,35 @@ impl Board {
         Profile::of(self.readonly)
     }
 
+    /// The totals of port 0 or 1 since the start; none of another port.
+    ///
+    /// ```
+    /// use ketphiroj::{Board, Profile, Refusal};
+    ///
+    /// let mut page = [0xFF; 64];
+    /// let mut board = Board::start(Profile::Full, &page)?;
+    /// board.feed(1, b"noise", &mut [0; Board::REPLY], &mut page)?;
+    /// assert_eq!(board.tally(0).map(|tally| tally.skipped), Some(0));
+    /// assert_eq!(board.tally(1).map(|tally| tally.skipped), Some(5));
+    /// assert_eq!(board.tally(2), None);
+    /// # Ok::<(), Refusal>(())
+    /// ```
+    pub const fn tally(&self, port: u8) -> Option<&Tally> {
+        match port {
+            0 => Some(&self.tally0),
+            1 => Some(&self.tally1),
+            _ => None,
+        }
+    }
+
     /// Starts the board where it stands, in a profile and whatever it holds: afterwards it is the one that [`Board::start`]
     /// gives. It takes less stack, since no board is handed over by value.
     ///
-    /// Refuses with [`Refusal::PageLength`] and [`Refusal::Page`]; the board then has two fresh ports, the factory's settings
-    /// and the profile asked for.
+    /// Refuses with [`Refusal::PageLength`] and [`Refusal::Page`]; the board then has two fresh ports, the factory's settings,
+    /// the profile asked for, and totals of zero.
     ///
     /// ```
-    /// use ketphiroj::{Board, Port, Profile, Refusal, Settings};
+    /// use ketphiroj::{Board, Port, Profile, Refusal, Settings, Tally};
     ///
     /// let mut page = [0xFF; 64];
     /// let mut room = [0; Board::REPLY];
@@ -230,9 +258,12 @@ impl Board {
     /// board.feed(0, &set[..5], &mut room, &mut page)?;
     /// assert_eq!((board.settings.accelerometer, board.first.held), (4, 5));
     ///
-    /// // Neither is on the page, so that a start forgets them.
+    /// assert_eq!((board.tally0.taken, board.tally0.good), (15, 10));
+    ///
+    /// // None of it is on the page, so that a start forgets it.
     /// board.start_in_place(Profile::Full, &page)?;
     /// assert_eq!((board.settings.accelerometer, board.first.held), (2, 0));
+    /// assert_eq!(board.tally0, Tally::new());
     /// assert_eq!(board, Board::start(Profile::Full, &page)?);
     ///
     /// // So does a start that is refused. The board is in the profile that was asked for.
@@ -240,7 +271,10 @@ impl Board {
     /// board.feed(1, &set[..5], &mut room, &mut page)?;
     /// assert_eq!(board.start_in_place(Profile::ReadOnly, &[0x00; 64]), Err(Refusal::Page));
     /// let factory = Settings { baud: 115200, accelerometer: 2, gyroscope: 3 };
-    /// assert_eq!(board, Board { first: Port::new(), second: Port::new(), settings: factory, readonly: true });
+    /// let (port, tally) = (Port::new(), Tally::new());
+    /// let refused =
+    ///     Board { first: port, second: port, settings: factory, readonly: true, tally0: tally, tally1: tally };
+    /// assert_eq!(board, refused);
     /// assert_eq!(board.profile(), Profile::ReadOnly);
     /// # Ok::<(), Refusal>(())
     /// ```
@@ -251,12 +285,15 @@ impl Board {
         self.second.held = 0;
         self.settings = started.settings;
         self.readonly = started.readonly;
+        self.tally0 = Tally::new();
+        self.tally1 = Tally::new();
         done_or_refused(started.number)
     }
 
     /// Feeds a chunk to port 0 or 1: takes bytes up to the end of the first message, handles it and writes its reply to
     /// the room's front, or takes the whole chunk where there is none. A save writes the page. Bytes that open no
-    /// message are skipped without a reply; so are stray A5 in front of one.
+    /// message are skipped without a reply; so are stray A5 in front of one. What is taken, skipped and answered is added to the
+    /// totals of the port: [`Tally`].
     ///
     /// A command has 1 to 16 fields, which are handled in their order as separate commands would be; the reply has a
     /// row for each. Where the fields do not fill the payload, or are more than 16, nothing is done, and the reply has
@@ -330,7 +367,7 @@ impl Board {
     /// let mut load = [0; 9];
     /// write_command(code::GYROSCOPE, function::LOAD, 0, &mut load)?;
     /// let outcome = board.feed(0, &load, &mut room, &mut page)?;
-    /// assert_eq!(outcome, Outcome::Reported { taken: 9, skipped: 0, saved: false, reply: 10 });
+    /// assert_eq!(outcome, Outcome::Reported { taken: 9, skipped: 0, saved: false, error: 6, reply: 10 });
     /// assert_eq!(read_reply(&room[..10], 0)?.error, 6);
     /// assert_eq!((board.settings.gyroscope, Values::read(&page)?.gyroscope), (5, Some(6)));
     /// # Ok::<(), Refusal>(())
@@ -395,7 +432,7 @@ impl Board {
     /// that is fed only after the silence counts as received after it: a message that begins before that rest and ends in it
     /// is lost.
     ///
-    /// What is said of a feed about the page, numbered commands and refusals holds here too. `taken` is 0.
+    /// What is said of a feed about the page, numbered commands, totals and refusals holds here too. `taken` is 0.
     ///
     /// On a silent line a driver calls until nothing more is reported, and only then feeds that port again. (An earlier feed is
     /// taken, and goes on over the bytes that are left: a message may then begin before the silence and end after it.)
@@ -435,10 +472,10 @@ impl Board {
 
 /// The outcome of a feed or a silence that has this room.
 fn outcome_of(stepped: &Stepped, room: &[u8]) -> Result<Outcome, Refusal> {
-    let &Stepped { number, taken, skipped, saved, .. } = stepped;
+    let &Stepped { number, taken, skipped, saved, error, .. } = stepped;
     match number {
         // A reply is a message: its length byte says how long it is.
-        0 => Ok(Outcome::Reported { taken, skipped, saved, reply: usize::from(room[3]) + 6 }),
+        0 => Ok(Outcome::Reported { taken, skipped, saved, error, reply: usize::from(room[3]) + 6 }),
         1 => Ok(Outcome::UsedUp { taken, skipped }),
         number => Err(refusal_of(number)),
     }

@@ -7,12 +7,23 @@
 //! below are those of its functions and records. It keeps no pointer, has no state of its own, ends, does not unwind,
 //! and touches no byte outside the slices that it is lent; Rattle proves that of every function. A `bool` in an answer
 //! is 0 or 1.
+//!
+//! A board's totals are lent as a row of [`TOTALS`] numbers. A [`Tally`] is one: it is `repr(C)`, has three `u64` and an array of
+//! eight and nothing else, so that the numbers stand in it in the order of its fields without a gap between them, and any
+//! numbers make a `Tally`. Its size and its places are asserted at the end of this module.
 
 #![allow(unsafe_code)]
 
 use crate::board::{Board, Port, Settings};
+use crate::tally::Tally;
+use std::ptr::from_mut;
+use std::slice::from_raw_parts_mut;
 
-/// What starting answers. Where it is refused, the board has the factory settings, two fresh ports and the profile asked for.
+/// How many totals a port has: the numbers of a [`Tally`].
+pub const TOTALS: usize = 11;
+
+/// What starting answers. Where it is refused, the board has the factory settings, two fresh ports and the profile asked for. Its
+/// totals are zero either way.
 #[derive(Clone, Copy, Debug, PartialEq, Eq)]
 #[repr(C)]
 pub struct Started {
@@ -49,6 +60,8 @@ pub struct Stepped {
     pub settings: Settings,
     /// 0, 1, or 16 to 20.
     pub number: u8,
+    /// The first error in the reply, 0 to 7; 0 where there is no reply.
+    pub error: u8,
     /// Whether a save was accepted or a fresh number was taken; the page has then been written.
     pub saved: bool,
 }
@@ -151,6 +164,8 @@ extern "C" {
         settings: Settings,
         readonly: bool,
         quiet: bool,
+        totals: *mut u64,
+        totals_length: usize,
         chunk: *const u8,
         chunk_length: usize,
         room: *mut u8,
@@ -158,6 +173,15 @@ extern "C" {
         page: *mut u8,
         page_length: usize,
     ) -> Stepped;
+    fn ketphiroj_count(
+        tally: *mut Tally,
+        number: u8,
+        taken: usize,
+        skipped: usize,
+        error: u8,
+        before: usize,
+        after: usize,
+    );
     fn ketphiroj_check_message(message: *const u8, message_length: usize) -> u8;
     fn ketphiroj_write_message(
         kind: u8,
@@ -225,8 +249,8 @@ pub fn start(readonly: bool, page: &[u8]) -> Started {
 }
 
 /// Starts a board whose ports have these bytes, which are cleared: 17 where one of them is not 260 bytes, and nothing is
-/// written; 19, 20, and they are cleared all the same. The held counts, the settings and the profile are the caller's to put
-/// in.
+/// written; 19, 20, and they are cleared all the same. The held counts, the settings, the profile and totals of zero are the caller's
+/// to put in.
 pub fn start_in_place(readonly: bool, first: &mut [u8], second: &mut [u8], page: &[u8]) -> StartedInPlace {
     // SAFETY: `first` and `second` are valid for reads and writes of their lengths, `page` for reads of its own, and no
     // two of them overlap, as their borrows say.
@@ -243,24 +267,38 @@ pub fn start_in_place(readonly: bool, first: &mut [u8], second: &mut [u8], page:
     }
 }
 
-/// A feed of a chunk to a port of a board, or where it is `quiet` a silence: 16 to 20. The board may be of any contents and
-/// stays where it is: only the named port's bytes are lent, and its held count and the settings are put back.
+/// A feed of a chunk, or where it is `quiet` a silence, argument by argument as C has it: 16 to 20, where 17 is also for `bytes` that
+/// are not 260 and `totals` that are not [`TOTALS`]. Both are those of the named port; `first` and `second` are the held counts of
+/// both. The held count and the settings answered are the caller's to put back.
 #[inline]
-fn call_in_place(port: u8, board: &mut Board, quiet: bool, chunk: &[u8], room: &mut [u8], page: &mut [u8]) -> Stepped {
-    let (first, second, settings, readonly) = (board.first.held, board.second.held, board.settings, board.readonly);
-    let named = if port == 0 { &mut board.first } else { &mut board.second };
-    // SAFETY: `chunk` is valid for reads of its length, the port's bytes, `room` and `page` for reads and writes of
+#[allow(clippy::too_many_arguments)] // those of the C call, one to one
+pub fn call_in_place(
+    port: u8,
+    bytes: &mut [u8],
+    first: usize,
+    second: usize,
+    settings: Settings,
+    readonly: bool,
+    quiet: bool,
+    totals: &mut [u64],
+    chunk: &[u8],
+    room: &mut [u8],
+    page: &mut [u8],
+) -> Stepped {
+    // SAFETY: `chunk` is valid for reads of its length, `bytes`, `totals`, `room` and `page` for reads and writes of
     // theirs, and no two of them overlap, as their borrows say.
-    let stepped = unsafe {
+    unsafe {
         ketphiroj_call_in_place(
             port,
-            named.bytes.as_mut_ptr(),
-            named.bytes.len(),
+            bytes.as_mut_ptr(),
+            bytes.len(),
             first,
             second,
             settings,
             readonly,
             quiet,
+            totals.as_mut_ptr(),
+            totals.len(),
             chunk.as_ptr(),
             chunk.len(),
             room.as_mut_ptr(),
@@ -268,7 +306,28 @@ fn call_in_place(port: u8, board: &mut Board, quiet: bool, chunk: &[u8], room: &
             page.as_mut_ptr(),
             page.len(),
         )
+    }
+}
+
+/// The totals as the row of numbers that the library counts in.
+#[inline]
+pub fn totals_of(tally: &mut Tally) -> &mut [u64] {
+    // SAFETY: the record is borrowed for as long as the row is, and is this many numbers, one behind the other and of
+    // any value, as the text above and the assertions below say.
+    unsafe { from_raw_parts_mut(from_mut(tally).cast(), TOTALS) }
+}
+
+/// A call for a port of a board. The board may be of any contents and stays where it is: only the named port's bytes and
+/// totals are lent, and its held count and the settings are put back.
+#[inline]
+fn call_board(port: u8, board: &mut Board, quiet: bool, chunk: &[u8], room: &mut [u8], page: &mut [u8]) -> Stepped {
+    let (first, second, settings, readonly) = (board.first.held, board.second.held, board.settings, board.readonly);
+    let (named, tally) = match port {
+        0 => (&mut board.first, &mut board.tally0),
+        _ => (&mut board.second, &mut board.tally1),
     };
+    let (bytes, totals) = (&mut named.bytes, totals_of(tally));
+    let stepped = call_in_place(port, bytes, first, second, settings, readonly, quiet, totals, chunk, room, page);
     named.held = stepped.held;
     board.settings = stepped.settings;
     stepped
@@ -277,13 +336,20 @@ fn call_in_place(port: u8, board: &mut Board, quiet: bool, chunk: &[u8], room: &
 /// Feeds a chunk to a port of a board: 16 to 20.
 #[inline]
 pub fn feed_in_place(port: u8, board: &mut Board, chunk: &[u8], room: &mut [u8], page: &mut [u8]) -> Stepped {
-    call_in_place(port, board, false, chunk, room, page)
+    call_board(port, board, false, chunk, room, page)
 }
 
 /// Tells a port of a board that its line is silent: 16 to 20.
 #[inline]
 pub fn silence_in_place(port: u8, board: &mut Board, room: &mut [u8], page: &mut [u8]) -> Stepped {
-    call_in_place(port, board, true, &[], room, page)
+    call_board(port, board, true, &[], room, page)
+}
+
+/// Counts a call in a driver's own record: what it answered, and what its port held before it and after it. Any arguments are
+/// taken.
+pub fn count(tally: &mut Tally, number: u8, taken: usize, skipped: usize, error: u8, before: usize, after: usize) {
+    // SAFETY: `tally` is valid for reads and writes during the call.
+    unsafe { ketphiroj_count(tally, number, taken, skipped, error, before, after) }
 }
 
 /// 0 for one whole message with right sums, else 21 or 22.
@@ -390,14 +456,19 @@ pub fn factory_page(room: &mut [u8]) -> Written {
 
 /// The layouts that the library's records have on x86-64.
 const _: () = {
-    use std::mem::{offset_of, size_of};
+    use std::mem::{align_of, offset_of, size_of};
     assert!(size_of::<Port>() == 272 && offset_of!(Port, held) == 264);
     assert!(size_of::<Settings>() == 8 && offset_of!(Settings, gyroscope) == 5);
-    assert!(size_of::<Board>() == 560 && offset_of!(Board, settings) == 544 && offset_of!(Board, readonly) == 552);
-    assert!(size_of::<Started>() == 568 && offset_of!(Started, board) == 8);
+    assert!(size_of::<Tally>() == TOTALS * size_of::<u64>() && align_of::<Tally>() == align_of::<u64>());
+    assert!(offset_of!(Tally, taken) == 0 && offset_of!(Tally, skipped) == 8);
+    assert!(offset_of!(Tally, good) == 16 && offset_of!(Tally, errors) == 24);
+    assert!(size_of::<Board>() == 736 && offset_of!(Board, settings) == 544 && offset_of!(Board, readonly) == 552);
+    assert!(offset_of!(Board, tally0) == 560 && offset_of!(Board, tally1) == 648);
+    assert!(size_of::<Started>() == 744 && offset_of!(Started, board) == 8);
     assert!(size_of::<StartedInPlace>() == 12 && offset_of!(StartedInPlace, settings) == 0);
     assert!(offset_of!(StartedInPlace, number) == 8 && offset_of!(StartedInPlace, readonly) == 9);
-    assert!(size_of::<Stepped>() == 40 && offset_of!(Stepped, number) == 32 && offset_of!(Stepped, saved) == 33);
+    assert!(size_of::<Stepped>() == 40 && offset_of!(Stepped, number) == 32);
+    assert!(offset_of!(Stepped, error) == 33 && offset_of!(Stepped, saved) == 34);
     assert!(size_of::<Written>() == 16 && offset_of!(Written, length) == 8);
     assert!(size_of::<FlatReply>() == 12 && offset_of!(FlatReply, value) == 8);
     assert!(size_of::<FlatField>() == 32 && offset_of!(FlatField, x) == 16);

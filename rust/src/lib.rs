@@ -2,8 +2,8 @@
 //! ports.
 //!
 //! The library is written in Rattle and proved; `rt staticlib capi` writes it as a static library, and this crate links
-//! it. What each call answers is the paper's ("01", the board's protocol, line by line, with requests 01 to 06 and 12
-//! of the change requests), or for a call that the paper does not list what docs/DECISIONS.md says, for every input.
+//! it. What each call answers is the paper's ("01", the board's protocol, line by line, with requests 01 to 06, 12 and
+//! 13 of the change requests), or for a call that the paper does not list what docs/DECISIONS.md says, for every input.
 //! Nothing here adds to it: refusals become the errors of [`Refusal`], numbers become enums, and lengths become slices.
 //!
 //! | Call | What it does |
@@ -12,6 +12,7 @@
 //! | [`Board::silence`] | the line has gone quiet: what is held is read to its end |
 //! | [`Board::start_in_place`] | the same start where a board stands, with less stack |
 //! | [`Profile`] | what a board is started in: whether port 1 may change anything |
+//! | [`Board::tally`], [`Tally::count`] | how bad a line is: the totals of each port, and a record of the driver's own |
 //! | [`check_message`], [`write_message`] | one whole message |
 //! | [`write_command`], [`write_numbered`], [`append_field`], [`read_reply`], [`read_rows`] | the controller's side |
 //! | [`read_field`], [`field_data`], [`write_data`], [`write_data_bits`] | the data message |
@@ -29,7 +30,7 @@
 //! // A byte of noise, then a Ping.
 //! let chunk = [0x00, 0xA5, 0xA5, 0x01, 0x02, 0x02, 0x00, 0x4F, 0x25];
 //! let outcome = board.feed(0, &chunk, &mut room, &mut page)?;
-//! assert_eq!(outcome, Outcome::Reported { taken: 9, skipped: 1, saved: false, reply: 10 });
+//! assert_eq!(outcome, Outcome::Reported { taken: 9, skipped: 1, saved: false, error: 0, reply: 10 });
 //! assert_eq!(room[..10], [0xA5, 0xA5, 0x01, 0x04, 0x80, 0x02, 0x02, 0x00, 0xD3, 0xCF]);
 //! # Ok::<(), ketphiroj::Refusal>(())
 //! ```
@@ -44,6 +45,7 @@ mod message;
 mod page;
 mod refusal;
 mod reply;
+mod tally;
 
 pub use board::{Board, Outcome, Port, Profile, Settings};
 pub use data::{field_data, read_field, write_data, write_data_bits, Axes, Field};
@@ -53,3 +55,4 @@ pub use message::{
 pub use page::{check_page, copy_body, factory_page, Values, PAGE};
 pub use refusal::Refusal;
 pub use reply::{read_reply, read_rows, Reply};
+pub use tally::Tally;

@@ -31,13 +31,14 @@ use Rattle.command.specs.Command.{valueFor, subjectOf, commandsOf}
 use Rattle.command.specs.Errors.{notOnBoard, fieldError, commandError}
 use Rattle.command.specs.Numbers.{numberedKind, numberError}
 use Rattle.command.specs.Effects.{workingValue, withWorking, Fits, valueField, functionEffect, fieldEffect, effectOn, effectOf}
-use Rattle.command.specs.Outcome.{Outcome, receivedOf, idle, thenOutcome, replyRow, effectOutcome, rowOutcome, denialOf, fieldWith}
+use Rattle.command.specs.Outcome.{Outcome, receivedOf, idle, thenOutcome, replyRow, errorIn, effectOutcome, rowOutcome, denialOf, fieldWith}
 use Rattle.command.specs.Handle.{fieldsIn, refusedOutcome, commandOn, commandOutcome, numberedOn, numberedOutcome, messageOutcome}
 use Rattle.command.specs.Place.{Placed, stateOf, placed, Opening, opening, numberOpening, openingOf, fieldsWith, rightsBehind, openedOn, openedOutcome}
 use Rattle.command.specs.Answer.{loadedFrom, savedOn, numberOn, pageAccess, replyRoom, Answering, answerWith, answering}
 use Rattle.command.proofs.Accepts.{accepted, something-loaded}
 use Rattle.command.proofs.Numbers.{fields-denied}
 use Rattle.command.proofs.Places.{put-length, put-behind, placed-then}
+use Rattle.command.proofs.First.{first-rows, first-written}
 use Rattle.command.proofs.Rows.{function-row, message-most}
 use Rattle.command.proofs.Spends.{inner-payload}
 
@@ -288,7 +289,7 @@ module _ (held chunk : List ℕ) (to : ℕ) (rights : Rights) (good : Bool) (kin
 -- ---- the answer
 
 module _ (rights : Rights) (m : List ℕ) (good : Bool) (w : Settings) (room page : List ℕ) where
-  pub answer-small : length room < 166 → record { answer = record { saved = false; settings = w }; room = room; page = page } ≡ answering rights (receivedOf good m) w room page
+  pub answer-small : length room < 166 → record { answer = record { saved = false; error = 0; settings = w }; room = room; page = page } ≡ answering rights (receivedOf good m) w room page
   unfolding answering
   answer-small h = rw (lt-ltb (length room) 166 h)
 
@@ -307,20 +308,27 @@ module _ (rights : Rights) (m : List ℕ) (good : Bool) (w : Settings) (room pag
           let l : length mid ≡ length room = ap (λ (q : Placed). length (q .room)) q ∙ put-length 4 (outcome .rows) room (omega arith) in
           (omega arith, omega arith, omega arith)
 
-      pub answer-done : (a : Answer) → a ≡ record { saved = p .saved; settings = p .settings } → (after : List ℕ) → after ≡ sealing kind (p .end - 4) mid .room
+      pub answer-done : (after : List ℕ) (a : Answer) → a ≡ record { saved = p .saved; error = errorIn after; settings = p .settings } → after ≡ sealing kind (p .end - 4) mid .room
           → record { answer = a; room = after; page = next } ≡ answering rights (receivedOf good m) w room page
       unfolding answering receivedOf
-      answer-done a at after left =
+      answer-done after a at left =
           let z : 4 + length (outcome .rows) - 4 ≡ length (outcome .rows) = omega arith in
           let s : sealing kind (length (outcome .rows)) (putAt 4 (outcome .rows) room) .room ≡ doneWriting (messageOf kind (outcome .rows)) room .room =
           sealed-rows kind (outcome .rows) room few-rows large in
-          let d : record { answer = a; room = after; page = next } ≡ answerWith kind outcome room = rw (at, left) (ap sealedAs q ∙ rw (z, s)) in
+          let b : after ≡ doneWriting (messageOf kind (outcome .rows)) room .room = left ∙ ap sealedRoom q ∙ rw (z, s) in
+          let f : errorIn after ≡ errorIn (messageOf kind (outcome .rows)) =
+          rw b (first-written (List ℕ) kind outcome (drop (length (messageOf kind (outcome .rows))) room) (rw ks (first-rows (List ℕ) pageAccess rights (record { settings = w; page = page }) (receivedOf good m)))) in
+          let d : record { answer = a; room = after; page = next } ≡ answerWith kind outcome room = rw (at, f, b) (ap leftBy q) in
           d ∙ rw (le-ltb (length room) 166 large, ks)
         where
-          sealedAs : Placed → Answering
-          sealedAs q =
+          sealedRoom : Placed → List ℕ
+          sealedRoom q = sealing kind (q .done .end - 4) (q .room) .room
+
+          -- What is left beside the reply.
+          leftBy : Placed → Answering
+          leftBy q =
               record {
-                answer = record { saved = q .done .saved; settings = q .done .settings };
-                room = sealing kind (q .done .end - 4) (q .room) .room;
+                answer = record { saved = q .done .saved; error = errorIn (messageOf kind (outcome .rows)); settings = q .done .settings };
+                room = doneWriting (messageOf kind (outcome .rows)) room .room;
                 page = q .page;
               }

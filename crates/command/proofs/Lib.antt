@@ -2,6 +2,7 @@ pub mod Accepts
 pub mod Answers
 pub mod Before
 pub mod Exampled
+pub mod First
 pub mod Keeps
 pub mod Loads
 pub mod Numbers

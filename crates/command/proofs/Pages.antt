@@ -314,7 +314,7 @@ pub reply-whole : ReplyWhole
 reply-whole rights m w room page h = ap (λ (a : Answering). a .room) (answer-large rights m w room page h)
 
 answer-small : (rights : Rights) (m : Received) (w : Settings) (room page : List ℕ) → length room < replyRoom
-    → answering rights m w room page ≡ record { answer = record { saved = false; settings = w }; room = room; page = page }
+    → answering rights m w room page ≡ record { answer = record { saved = false; error = 0; settings = w }; room = room; page = page }
 unfolding answering
 answer-small rights m w room page h = rw (lt-ltb (length room) replyRoom h)
 

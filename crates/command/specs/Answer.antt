@@ -18,7 +18,7 @@ use Rattle.command.specs.declared.rights.Rights.{Rights}
 use Rattle.command.specs.declared.settings.Settings.{Settings}
 use Rattle.command.specs.declared.answer.Answer.{Answer}
 use Rattle.command.specs.Effects.{startSettings}
-use Rattle.command.specs.Outcome.{Access, Outcome, Received, replyOf}
+use Rattle.command.specs.Outcome.{Access, Outcome, Received, replyOf, errorIn}
 use Rattle.command.specs.Handle.{messageOutcome}
 
 -- The value in a body: its four bytes, or its one.
@@ -72,14 +72,14 @@ pub record Answering : Type 0 where
 abbrev pub answerWith : ℕ → Outcome (List ℕ) → List ℕ → Answering
 answerWith kind o room =
     record {
-      answer = record { saved = o .saved; settings = o .next .settings };
+      answer = record { saved = o .saved; error = errorIn (replyOf kind o); settings = o .next .settings };
       room = doneWriting (replyOf kind o) room .room;
       page = o .next .page;
     }
 
 -- In a smaller room a message is not handled.
 abbrev pub answerOn : Bool → ℕ → Outcome (List ℕ) → Settings → List ℕ → List ℕ → Answering
-answerOn true kind o w room page = record { answer = record { saved = false; settings = w }; room = room; page = page }
+answerOn true kind o w room page = record { answer = record { saved = false; error = 0; settings = w }; room = room; page = page }
 answerOn false kind o w room page = answerWith kind o room
 
 unfoldable pub answering : Rights → Received → Settings → List ℕ → List ℕ → Answering

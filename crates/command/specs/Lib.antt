@@ -4,6 +4,7 @@ pub mod Command
 pub mod Effects
 pub mod Errors
 pub mod Examples
+pub mod First
 pub mod Handle
 pub mod Numbered
 pub mod Numbers

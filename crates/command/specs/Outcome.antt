@@ -4,6 +4,7 @@ use mathlib.Core.Bool.{Bool, true, false, _&&_, _||_}
 use mathlib.Core.List.{List, [], _∷_, _++_}
 use mathlib.Core.Option.{Option, none, some}
 use Prim.Native.Nat.{ℕ}
+use lib.ListN.{getD}
 use Rattle.page.specs.declared.setting.Setting.{Setting}
 use Rattle.page.specs.declared.setting.Stored.{Stored}
 use Rattle.page.specs.Page.{isThere}
@@ -56,6 +57,10 @@ replyOf kind o = messageOf kind (o .rows)
 -- A row of the reply: one field 80 with size 2, echo and error; an accepted function 2 adds a second field.
 abbrev pub replyRow : ℕ → ℕ → List ℕ → List ℕ
 replyRow echo error row = 0x80 ∷ 0x02 ∷ echo ∷ error ∷ row
+
+-- The first error in a reply: that of its first row, behind the four bytes of the header; 0 where there is no reply.
+abbrev pub errorIn : List ℕ → ℕ
+errorIn reply = getD reply 7 0
 
 module _ {P : Type 0} where
   -- Nothing is done.

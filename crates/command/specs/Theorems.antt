@@ -91,7 +91,7 @@ pub record KeptBy (rights : Rights) (m : Received) (w : Settings) (room page : L
   pub mark : replyRoom ≤ length room → answering rights m w room page .answer .saved ≡ not (isEmpty (messagePuts rights (record { settings = w; page = page }) m))
   -- In a smaller room nothing changes.
   pub small-room : length room < replyRoom
-      → answering rights m w room page ≡ record { answer = record { saved = false; settings = w }; room = room; page = page }
+      → answering rights m w room page ≡ record { answer = record { saved = false; error = 0; settings = w }; room = room; page = page }
 
 abbrev pub AnswerKeeps : Type 0
 AnswerKeeps =

@@ -11,7 +11,7 @@ ghost use Rattle.command.specs.Answer.{loadedFrom, savedOn, pageAccess, 
 ghost use Rattle.command.specs.Command.{valueFor, commandsOf};
 ghost use Rattle.command.specs.Effects.{Fits, functionEffect};
 ghost use Rattle.command.specs.Errors.{fieldsRefused};
-ghost use Rattle.command.specs.Outcome.{receivedOf, denialOf, effectOutcome, fieldWith};
+ghost use Rattle.command.specs.Outcome.{receivedOf, errorIn, denialOf, effectOutcome, fieldWith};
 ghost use Rattle.command.specs.Handle.{fieldsIn, commandOutcome};
 ghost use Rattle.command.specs.Place.{stateOf, placed, fieldsWith, rightsBehind, openedOutcome};
 use crate::command::Command;
@@ -40,6 +40,8 @@ use page::Setting;
 pub struct Answer {
     // the mark of a save: one was accepted, or a fresh number
     pub saved: bool,
+    // the first error in the reply, 0 where there is none
+    pub error: u8,
     pub settings: Settings,
 }
 
@@ -155,16 +157,25 @@ fn seal(kind: u8, n: usize, room: &mut [u8])
     message::seal_message(kind, n, room);
 }
 
+// The first error in the reply at the room's front.
+fn error_in(room: &[u8]) -> u8
+    ensures { λ r. ⌜ r ≡ errorIn (now (room .entry)) ⌝ }
+{
+    if room.len() < 8 { 0 } else { room[7] }
+}
+
 // The answer whose rows stand in the room from byte 4 up to `p.end`: writes the header in front of them and the sums behind.
 fn sealed(kind: u8, p: Progress, room: &mut [u8]) -> Answer
     requires { ⌜ (4 ≤ p .end) × (p .end < 260) × (p .end + 2 ≤ length (now room)) ⌝ }
-    ensures { λ r. ⌜ r ≡ record { saved = p .saved; settings = p .settings } ⌝ }
+    ensures { λ r. ⌜ r ≡ record { saved = p .saved; error = errorIn (now (room .exit)); settings = p .settings } ⌝ }
     ensures { λ _. ⌜ now (room .exit) ≡ sealing kind (p .end - 4) (now (room .entry)) .room ⌝ }
 {
     let settings = p.settings;
     seal(kind, p.end - 4, room);
+    let error = error_in(room);
     Answer {
         saved: p.saved,
+        error,
         settings,
     }
 }
@@ -256,6 +267,7 @@ pub fn answer_over(
     if room.len() < 166 {
         return Answer {
             saved: false,
+            error: 0,
             settings: w,
         };
     }

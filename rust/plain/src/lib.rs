@@ -1,6 +1,6 @@
 //! The board's protocol in plain Rust, and material to test with.
 //!
-//! This is a reading of the paper ("01", the board's protocol, line by line), with requests 01 to 06 and 12 of the
+//! This is a reading of the paper ("01", the board's protocol, line by line), with requests 01 to 06, 12 and 13 of the
 //! change requests ("02"), and not of the library. It is slow and obvious, in the papers' words and order; numbers such as
 //! 01-014 and 02-01.3 are those of the papers' sentences. READINGS.md says how each sentence is read that leaves a
 //! doubt, and which readings docs/DECISIONS.md settles. [`read_page`], [`body`], [`append_field`], [`write_numbered`]
@@ -19,9 +19,11 @@
 //! | Numbers of the calls | [`number`] |
 //! | Data messages | [`readers`], [`writers`] |
 //! | Listing | [`listing`](mod@listing) |
+//! | Request 13 | [`tally`]: what the board counts, and the driver's own record; the counts from the history in [`reckoning`] |
 //!
 //! The feed and the plain reckoning are two readings that share only the sums, the parts of a message, the handling of
-//! one message on values, and the page's values and writing. The scan is written twice.
+//! one message on values, and the page's values and writing. The scan is written twice. The totals are counted three times: by
+//! the feed, by the driver's record and from the reckoning's history.
 
 #![forbid(unsafe_code)]
 
@@ -36,6 +38,7 @@ pub mod readers;
 pub mod reckoning;
 pub mod scan;
 pub mod sum_law;
+pub mod tally;
 pub mod writers;
 
 pub use handling::{fresh, handle, loaded, readable, reply_of, storable, usable, value_size};
@@ -47,5 +50,6 @@ pub use port::{feed, silence, start, start_in_place, Board, Fed, Port, StartedIn
 pub use readers::{field_data, read_field, read_reply, Field, Reply};
 pub use reckoning::{drained, Answered, Draining, Reckoned, Reckoning};
 pub use scan::{scan, scan_marked, Event};
-pub use sum_law::{Accepted, SumLaw};
+pub use sum_law::{adds_up, Accepted, SumLaw};
+pub use tally::{record, Done, Tally, Told};
 pub use writers::{append_field, write_command, write_data, write_message, write_numbered};

@@ -1,10 +1,11 @@
 //! Ports, the board, starting, feeding and silences (01-013 to 01-025, 01-056, 01-084 to 01-088; 02-01.3, 02-02.5, 02-03.6,
-//! 02-05.3, 02-05.4, 02-06.1 to 02-06.3, 02-06.6, 02-06.8, 02-12.2, 02-12.5).
+//! 02-05.3, 02-05.4, 02-06.1 to 02-06.3, 02-06.6, 02-06.8, 02-12.2, 02-12.5, 02-13.2).
 
 use crate::handling::{handle, usable, Profile, Settings, ACCELEROMETER, BAUD, FACTORY, GYROSCOPE};
 use crate::message::{length_of, number_of, sums_right};
 use crate::number;
 use crate::page::{body_of, check_page, factory_page, values, write_page};
+use crate::tally::{Done, Tally};
 
 /// 01-019: "A port holds at most 260 bytes of an undecided message or of bytes not yet looked at."
 #[derive(Clone, Copy, Debug, PartialEq, Eq)]
@@ -34,14 +35,18 @@ pub struct Board {
     pub settings: Settings,
     /// 02-12.2: "A board started in this profile".
     pub profile: Profile,
+    /// 02-13.2: "The board record gains, for each port, 64-bit totals since start".
+    pub tallies: [Tally; 2],
 }
 
 /// Starting: the number and the board.
 ///
 /// 01-084: "Starting tests 19, 20". 01-087: a refusal returns "the factory settings and two fresh ports". 02-12.5: "A refused
-/// start keeps the profile asked for."
+/// start keeps the profile asked for." 02-13.2: the totals are those "since start", so that none is left of what was before,
+/// whether it is refused or not.
 pub fn start(profile: Profile, page: &[u8]) -> (u8, Board) {
-    let fresh = Board { ports: [Port::fresh(), Port::fresh()], settings: FACTORY, profile };
+    let ports = [Port::fresh(), Port::fresh()];
+    let fresh = Board { ports, settings: FACTORY, profile, tallies: [Tally::default(); 2] };
     let refused = check_page(page);
     if refused != number::DONE {
         return (refused, fresh);
@@ -65,7 +70,7 @@ pub fn start(profile: Profile, page: &[u8]) -> (u8, Board) {
 }
 
 /// What starting a board in place answers; the held counts, the settings and the profile are put into the board by its
-/// owner.
+/// owner, and so are zeros for the totals of both ports.
 #[derive(Clone, Copy, Debug, PartialEq, Eq)]
 pub struct StartedInPlace {
     pub number: u8,
@@ -88,12 +93,14 @@ pub fn start_in_place(profile: Profile, first: &mut [u8], second: &mut [u8], pag
 }
 
 /// 01-023: "It answers the number, the bytes taken, the bytes skipped, whether a save was accepted, and the new board." So
-/// does a silence, which takes no byte.
+/// does a silence, which takes no byte. 02-13.4: the driver is told the "first error" too.
 #[derive(Clone, Debug, PartialEq, Eq)]
 pub struct Fed {
     pub number: u8,
     pub taken: usize,
     pub skipped: usize,
+    /// The error in the first row of the reply; 0 where there is no reply.
+    pub error: u8,
     pub saved: bool,
     pub board: Board,
 }
@@ -174,34 +181,43 @@ fn go_on(port: u8, board: &Board, undecided: Undecided, room: &mut [u8], page: &
     // "A refusal takes 0 bytes, skips 0, returns the board given [..] and writes nothing."
     let refused = refusal(port, board, room, page);
     if refused != number::DONE {
-        return Fed { number: refused, taken: 0, skipped: 0, saved: false, board: *board };
+        return Fed { number: refused, taken: 0, skipped: 0, error: 0, saved: false, board: *board };
     }
 
     let named = &board.ports[usize::from(port)];
-    let Stopped { message, taken, skipped, held } = scan_on(named.bytes[..named.held].to_vec(), undecided);
-    let board = with_held(board, port, &held);
+    let Stopped { message, taken, skipped, good, held } = scan_on(named.bytes[..named.held].to_vec(), undecided);
+    let mut board = with_held(board, port, &held);
     let Some(message) = message else {
-        return Fed { number: number::USED_UP, taken, skipped, saved: false, board };
+        board.tallies[usize::from(port)].count(&Done { taken, skipped, good, error: None });
+        return Fed { number: number::USED_UP, taken, skipped, error: 0, saved: false, board };
     };
-    let (saved, settings) = report(port, &message, &board, room, page);
-    Fed { number: number::DONE, taken, skipped, saved, board: Board { settings, ..board } }
+    let Reported { error, saved, settings } = report(port, &message, &board, room, page);
+    board.settings = settings;
+    board.tallies[usize::from(port)].count(&Done { taken, skipped, good, error: Some(error) });
+    Fed { number: number::DONE, taken, skipped, error, saved, board }
 }
 
-/// Where the scan stopped: the message that was reported, if one was, what was taken and skipped, and what is held.
+/// Where the scan stopped: the message that was reported, if one was, what was taken and skipped, the length of the message if
+/// it was a good one, else 0, and what is held.
 struct Stopped {
     message: Option<Vec<u8>>,
     taken: usize,
     skipped: usize,
+    good: usize,
     held: Vec<u8>,
 }
 
 fn scan_on(mut held: Vec<u8>, undecided: Undecided) -> Stopped {
     let mut taken = 0;
     let mut skipped = 0;
+    let mut good = 0;
     let message = loop {
         match (look_at(&held), undecided) {
             // "and stops at the first reported message"
-            (Left::Good(whole), _) => break Some(held.drain(..whole).collect()),
+            (Left::Good(whole), _) => {
+                good = whole;
+                break Some(held.drain(..whole).collect());
+            }
             (Left::Damaged(whole), _) => {
                 let message = held[..whole].to_vec();
                 held.remove(0);
@@ -222,7 +238,7 @@ fn scan_on(mut held: Vec<u8>, undecided: Undecided) -> Stopped {
             }
         }
     };
-    Stopped { message, taken, skipped, held }
+    Stopped { message, taken, skipped, good, held }
 }
 
 /// 01-024: "After every accepted feed the fed port's room past its held bytes is zero, and the other port's record is
@@ -235,12 +251,19 @@ fn with_held(board: &Board, port: u8, held: &[u8]) -> Board {
     board
 }
 
+/// What handling the message that was reported came to: the error in the reply's first row, the save mark and the settings.
+struct Reported {
+    error: u8,
+    saved: bool,
+    settings: Settings,
+}
+
 /// Handles the message that came on a port, writes its reply and, where a save was accepted or a number was fresh, the
-/// page. Gives the save mark and the settings.
+/// page.
 ///
 /// 01-088: "A write to a room touches only the message's own bytes, from the room's front; a save writes the 64 bytes
 /// of the page." 02-03.9: "The page now changes on accepted saves and on fresh numbers".
-fn report(port: u8, message: &[u8], board: &Board, room: &mut [u8], page: &mut [u8]) -> (bool, Settings) {
+fn report(port: u8, message: &[u8], board: &Board, room: &mut [u8], page: &mut [u8]) -> Reported {
     let values = values(page).expect("the page of an accepted call is blank or sound");
     let handled = handle(board.profile, port, message, board.settings, values);
     room[..handled.reply.len()].copy_from_slice(&handled.reply);
@@ -248,5 +271,6 @@ fn report(port: u8, message: &[u8], board: &Board, room: &mut [u8], page: &mut [
         // "A save puts its value in, keeps the other entries, and writes the page anew."
         page.copy_from_slice(&write_page(&handled.values));
     }
-    (handled.saved, handled.settings)
+    // 02-13.2: "the first error number in the reply": each reply has a row.
+    Reported { error: handled.rows[0].error, saved: handled.saved, settings: handled.settings }
 }

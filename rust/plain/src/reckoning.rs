@@ -1,10 +1,12 @@
 //! The plain reckoning (01-057 to 01-068; 02-02.5, 02-02.6, 02-03.9, 02-05.3), with restarts (02-03.10), silences (02-06.4,
-//! 02-06.5) and profiles (02-12.6); and which lists demand 3 is about.
+//! 02-06.5), profiles (02-12.6) and totals (02-13.3, 02-13.7); and which lists demand 3 is about.
 
 use crate::handling::{handle, loaded, Profile, Settings, ACCELEROMETER, BAUD, FACTORY, GYROSCOPE};
 use crate::number;
 use crate::page::{values, write_page, Values};
+use crate::readers::read_reply;
 use crate::scan::{scan_marked, Event};
+use crate::tally::Tally;
 
 /// 01-060: "It keeps, for each port, all bytes taken and the count n of messages reported, at first none and 0".
 ///
@@ -12,25 +14,30 @@ use crate::scan::{scan_marked, Event};
 /// accepted feed" (01-067). Before any feed nothing is left, as with number 1.
 ///
 /// 02-06.4: "a stream with silence marks": each is the count of bytes taken before it.
+///
+/// 02-13.3: "each equals the count from the history": of the replies it keeps the first errors, and counts the rest from the
+/// bytes.
 #[derive(Clone, Debug, PartialEq, Eq)]
 struct Stream {
     taken: Vec<u8>,
     marks: Vec<usize>,
     n: usize,
     last: u8,
+    errors: Vec<u8>,
 }
 
-/// Where the scan stands, and how many bytes it has skipped until there.
+/// Where the scan stands, and until there how many bytes it has skipped and the good messages had.
 struct Standing {
     place: usize,
     skipped: usize,
+    good: usize,
 }
 
 impl Stream {
     /// 01-066: "The scan then stands after the good message, or one byte after the start of the damaged one; with
     /// number 1, where it is undecided or nothing is left."
     fn standing(&self) -> Standing {
-        let mut standing = Standing { place: 0, skipped: 0 };
+        let mut standing = Standing { place: 0, skipped: 0, good: 0 };
         let mut messages = 0;
         for event in scan_marked(&self.taken, &self.marks) {
             if self.last == number::DONE && messages == self.n {
@@ -38,12 +45,31 @@ impl Stream {
             }
             standing.place = event.after();
             standing.skipped += event.skipped();
+            standing.good += event.good();
             if event.message().is_some() {
                 messages += 1;
             }
         }
         standing
     }
+
+    /// 02-13.2: "bytes taken, bytes skipped, bytes of good messages, and messages by the first error number in the reply, 0 to
+    /// 7."
+    fn totals(&self) -> Tally {
+        let Standing { skipped, good, .. } = self.standing();
+        let with = |error: usize| self.errors.iter().filter(|&&first| usize::from(first) == error).count();
+        Tally {
+            taken: total(self.taken.len()),
+            skipped: total(skipped),
+            good: total(good),
+            errors: std::array::from_fn(|error| total(with(error))),
+        }
+    }
+}
+
+/// 02-13.3: "Until a total reaches its largest figure, where it stops, each equals the count from the history".
+fn total(count: usize) -> u64 {
+    u64::try_from(count).unwrap_or(u64::MAX)
 }
 
 /// What the reckoning says of one feed, or of one silence.
@@ -52,6 +78,8 @@ pub struct Reckoned {
     pub number: u8,
     pub taken: usize,
     pub skipped: usize,
+    /// The first error in the reply; 0 where there is none.
+    pub error: u8,
     pub saved: bool,
     /// Empty where there is no reply.
     pub reply: Vec<u8>,
@@ -60,7 +88,7 @@ pub struct Reckoned {
 impl Reckoned {
     /// "no reply and no save"
     fn without_reply(number: u8, taken: usize, skipped: usize) -> Reckoned {
-        Reckoned { number, taken, skipped, saved: false, reply: Vec::new() }
+        Reckoned { number, taken, skipped, error: 0, saved: false, reply: Vec::new() }
     }
 }
 
@@ -91,7 +119,8 @@ impl Reckoning {
     /// profile".
     pub fn new(profile: Profile, page: &[u8]) -> Reckoning {
         let values = values(page).expect("the reckoning begins with a blank or sound page");
-        let empty = Stream { taken: Vec::new(), marks: Vec::new(), n: 0, last: number::USED_UP };
+        let (taken, marks, errors) = (Vec::new(), Vec::new(), Vec::new());
+        let empty = Stream { taken, marks, n: 0, last: number::USED_UP, errors };
         // "the working values, set as starting sets them; and the page's values, one or none under each code." 02-05.3:
         // "starting uses the factory value" where the page's is no longer taken.
         let started = |code: u8| loaded(code, &values).unwrap_or(FACTORY.value(code));
@@ -153,8 +182,10 @@ impl Reckoning {
                 stream.last = number::DONE;
                 // "Bytes skipped are those that the scan skipped since that port's last accepted feed;"
                 let skipped = stream.standing().skipped - skipped_before;
-                let reply = handled.reply;
-                return Reckoned { number: number::DONE, taken, skipped, saved: handled.saved, reply };
+                let (saved, reply) = (handled.saved, handled.reply);
+                let error = first_error(&reply);
+                stream.errors.push(error);
+                return Reckoned { number: number::DONE, taken, skipped, error, saved, reply };
             }
         }
 
@@ -185,10 +216,22 @@ impl Reckoning {
         stream.taken[stream.standing().place..].to_vec()
     }
 
+    /// 02-13.7: "Demand 3 covers the totals too." The port is 0 or 1.
+    pub fn totals(&self, port: u8) -> Tally {
+        self.ports[usize::from(port)].totals()
+    }
+
     /// "The page is the writing of its values, blank with none."
     pub fn page(&self) -> [u8; 64] {
         write_page(&self.values)
     }
+}
+
+/// The error in the first row of a reply, as who gets it reads it.
+fn first_error(reply: &[u8]) -> u8 {
+    let row = read_reply(reply, 0);
+    assert_eq!(row.number, number::DONE, "a reply has a first row");
+    row.error
 }
 
 /// A step of a list, and the number that the call was answered with.

@@ -33,6 +33,14 @@ impl Event {
         }
     }
 
+    /// Bytes of a good message; a damaged one has none.
+    pub fn good(&self) -> usize {
+        match *self {
+            Event::Skipped { .. } | Event::Damaged { .. } => 0,
+            Event::Good { length, .. } => length,
+        }
+    }
+
     /// The place and the length of a message, good or damaged.
     pub fn message(&self) -> Option<(usize, usize)> {
         match *self {

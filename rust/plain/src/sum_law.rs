@@ -1,8 +1,9 @@
 //! The sum law of a port (01-025), which 02-06.6 asks of every list of feeds and silences, drained or not. It is told by
-//! the calls alone, with no scan.
+//! the calls alone, with no scan. And the same law between the totals and the bytes held (02-13.3).
 
 use crate::message::{check_message, length_of};
 use crate::number;
+use crate::tally::Tally;
 
 /// What an accepted call of a port did.
 #[derive(Clone, Copy, Debug)]
@@ -56,4 +57,12 @@ impl SumLaw {
         }
         Err(format!("the sum law does not hold: {self:?} and {} held", call.held))
     }
+}
+
+/// 02-13.3: "the sum law holds between them and the bytes held", until a total has reached its largest figure. 01-025: "bytes
+/// taken on it = lengths of its good messages + bytes the scan skipped + bytes held."
+pub fn adds_up(totals: &Tally, held: usize) -> bool {
+    let bytes = [totals.taken, totals.good, totals.skipped];
+    let [taken, good, skipped] = bytes.map(u128::from);
+    bytes.contains(&u64::MAX) || taken == good + skipped + held as u128
 }

@@ -46,7 +46,7 @@ returns-2 c =
     let kind = c .before .before .before .before .before .before .before .before .before .before .before .before .before .before .before .before .byte-over .ensures in
     let o = opening-answered (now (a .held)) (now (a .chunk)) (c .before .before .before .before .before .before .before .before .before .before .before .before .before .before .before .payload-end .result) (a .rights) (a .good) (c .before .before .before .before .before .before .before .before .before .before .before .before .before .before .before .before .byte-over .result) kind (c .before .before .before .before .before .before .before .before .before .before .before .before .before .before .before .payload-end .ensures .1) (a .w) (now (a .room)) (now (a .page)) (c .before .before .before .before .before .before .before .before .before .before .before .before .before .open-message .result) _ (c .before .before .before .before .before .before .before .before .before .before .before .before .before .open-message .ensures) in
     let s = c .before .before .sealed .ensures in
-    answer-done (a .rights) (now (a .held) ++ now (a .chunk)) (a .good) (a .w) (now (a .room)) (now (a .page)) (c .before .before .before .before .before .before .before .before .before .before .before .before .before .before .before .before .before .if1 .left) _ kind _ _ _ (c .before .before .before .before .before .before .before .before .answer-opened .ensures ∙ o) _ (s .0) _ (s .1)
+    answer-done (a .rights) (now (a .held) ++ now (a .chunk)) (a .good) (a .w) (now (a .room)) (now (a .page)) (c .before .before .before .before .before .before .before .before .before .before .before .before .before .before .before .before .before .if1 .left) _ kind _ _ _ (c .before .before .before .before .before .before .before .before .answer-opened .ensures ∙ o) _ _ (s .0) (s .1)
 
 pub answer-over-spec : {M : Type 1} → statement M
 answer-over-spec =
