@@ -29,14 +29,16 @@ use Rattle.page.proofs.Pages.{factory-usable, sound-passes}
 use Rattle.page.proofs.Settings.{five-ranges}
 use Rattle.command.specs.declared.rights.Rights.{Rights}
 use Rattle.command.specs.declared.settings.Settings.{Settings}
-use Rattle.command.specs.Outcome.{Received, receivedOf}
+use Rattle.totals.specs.declared.Tally.{Tally}
+use Rattle.command.specs.Outcome.{Received, receivedOf, errorIn}
 use Rattle.command.specs.Handle.{messageOutcome}
-use Rattle.command.specs.Answer.{loadedFrom, pageAccess, settingsFrom, replyRoom, answering}
+use Rattle.command.specs.Answer.{loadedFrom, pageAccess, settingsFrom, replyRoom, Answering, answering}
 use Rattle.command.specs.Effects.{settingsUsable}
 use Rattle.command.specs.Theorems.{replyTo}
 use Rattle.command.specs.Puts.{Put, putsOn, isEmpty, messagePuts}
+use Rattle.command.proofs.First.{first-rows}
 use Rattle.command.proofs.Keeps.{starts-usable}
-use Rattle.command.proofs.Pages.{loads-usable, reply-whole, answer-keeps}
+use Rattle.command.proofs.Pages.{loads-usable, answer-large, reply-whole, answer-keeps}
 use Rattle.command.proofs.Separate.{longest-reply}
 use Rattle.message.proofs.Writes.{message-length}
 use Rattle.board.specs.Profile.{Profile, rightsOf}
@@ -45,14 +47,13 @@ use Rattle.page.specs.declared.setting.Setting.the-variants.{Baud, Acceleromete
 use Rattle.board.specs.declared.board.Board.{Board}
 use Rattle.board.specs.declared.board.Started.{Started}
 use Rattle.board.specs.declared.port.Port.{Port}
-use Rattle.board.specs.Port.{portRoom, heldBytes, portHolding, portOf, withPort}
+use Rattle.board.specs.Port.{portRoom, heldBytes, portHolding, portOf, tallyAt, withPort}
 use Rattle.board.specs.Start.{factorySettings, freshBoard, startOn, startOf}
-use Rattle.board.specs.Feed.{Feeding, PortStep, unsound, feedNumber, refusedFeeding, leftOf, stepOn, stepBy, feedOn, acceptOn, callOf}
+use Rattle.board.specs.Feed.{Feeding, PortStep, unsound, feedNumber, refusedFeeding, leftOf, stepOn, stepBy, tallyAfter, feedOn, acceptOn, callOf}
 use Rattle.board.specs.Runs.{callsFrom}
 use Rattle.board.specs.Older.{RangeSound}
 use Rattle.board.specs.AnyBoard.{isSound, otherPort, goodLength, FirstNumber, FirstNumbers, CallsKeep, StartsKeep, RunsStaySound}
-use Rattle.board.proofs.Follows.{holding, call-profile, start-profile}
-use Rattle.board.proofs.Reckons.{page-sound}
+use Rattle.board.proofs.Follows.{holding, call-profile, start-profile, page-sound}
 use Rattle.board.proofs.Places.{passes, resume-past}
 
 -- ---- soundness, taken apart and put together
@@ -157,20 +158,22 @@ module _ (rights : Rights) (held : List ℕ) (w : Settings) (i : Input) (room pa
           }
 
   -- What it reports: a whole reply, or nothing; and how its counts add up.
-  record StepReply (after : List ℕ) : Type 0 where
+  record StepReply (after : List ℕ) (error : ℕ) : Type 0 where
     reply : List ℕ
     whole : wholeNumber reply ≡ 0
     fits : length reply ≤ replyRoom
     room-after : after ≡ reply ++ drop (length reply) room
+    first-error : error ≡ errorIn reply
+    known-error : error ≤ 7
 
   record StepTells (sought : Sought) (s : PortStep) : Type 0 where
-    reported : s .number ≡ 0 → StepReply (s .room)
+    reported : s .number ≡ 0 → StepReply (s .room) (s .error)
     all-taken : s .number ≡ 1 → s .taken ≡ length chunk
+    no-error : s .number ≡ 1 → s .error ≡ 0
     no-save : s .number ≡ 1 → s .saved ≡ false
     room-same : s .number ≡ 1 → s .room ≡ room
     page-same : s .number ≡ 1 → s .page ≡ page
     settings-same : s .number ≡ 1 → s .settings ≡ w
-    sum : length held + s .taken ≡ goodLength sought + s .skipped + length (s .held)
 
   one-not-zero : {A : Type 0} → _≡_ {A = ℕ} 1 0 → A
   one-not-zero e = let no : ⊥ = omega (arith, e) in absurd no
@@ -178,17 +181,21 @@ module _ (rights : Rights) (held : List ℕ) (w : Settings) (i : Input) (room pa
   zero-not-one : {A : Type 0} → _≡_ {A = ℕ} 0 1 → A
   zero-not-one e = let no : ⊥ = omega (arith, e) in absurd no
 
-  answer-reply : (m : Received) → replyRoom ≤ length room → StepReply (answering rights m w room page .room)
+  answer-reply : (m : Received) → replyRoom ≤ length room → StepReply (answering rights m w room page .room) (answering rights m w room page .answer .error)
   answer-reply m large =
       let x : Kept = record { settings = w; page = page } in
       let rows : List ℕ = messageOutcome pageAccess rights x m .rows in
       let most = longest-reply .most (List ℕ) pageAccess rights x m in
       let few : length rows ≤ 255 = omega (arith, most, message-length (m .kind) rows) in
+      let told : answering rights m w room page .answer .error ≡ errorIn (replyTo rights m w page) = ap (λ (a : Answering). a .answer .error) (answer-large rights m w room page large) in
+      let first = first-rows (List ℕ) pageAccess rights x m in
       record {
         reply = replyTo rights m w page;
         whole = written-is-read (m .kind) rows few .whole;
         fits = most;
         room-after = reply-whole rights m w room page large;
+        first-error = told;
+        known-error = omega (arith, told, first .first, first .most);
       }
 
   found-sum : (k n : ℕ) (good : Bool) → 1 ≤ n → k + n ≤ length held + length chunk
@@ -204,32 +211,49 @@ module _ (rights : Rights) (held : List ℕ) (w : Settings) (i : Input) (room pa
       go true e = omega (arith, s, e)
       go false e = omega (arith, s, e)
 
-  step-tells : length held ≤ portRoom → replyRoom ≤ length room → StepTells (soughtBy front i held) (stepBy rights held w i room page)
+  -- How the counts of a step add up, and what it takes at the most.
+  pub record StepAdds (sought : Sought) (s : PortStep) : Type 0 where
+    pub sum : length held + s .taken ≡ goodLength sought + s .skipped + length (s .held)
+    pub most : s .taken ≤ length chunk
+    pub few : s .number ≤ 1
+
+  pub step-adds : length held ≤ portRoom → StepAdds (soughtBy front i held) (stepBy rights held w i room page)
   unfolding stepBy
-  step-tells few large = go (soughtBy front i held) refl
+  step-adds few = go (soughtBy front i held) refl
+    where
+      go : (q : Sought) → soughtBy front i held ≡ q → StepAdds q (stepOn rights q held w chunk room page)
+      go (Starved k) e =
+          let s : Starving cutting-harmless held i k = call-starved cutting-harmless held i k few e in
+          record { sum = omega (arith, s .inside, length-append held chunk, length-drop k (held ++ chunk)); most = omega arith; few = omega arith }
+      go (Found k n good) e =
+          let s = call-sized cutting-harmless held i k n good e in
+          let inside : k + n ≤ length held + length chunk = omega (arith, s .inside, length-append held chunk) in
+          record { sum = found-sum k n good (s .some) inside; most = omega arith; few = omega arith }
+
+  step-tells : replyRoom ≤ length room → StepTells (soughtBy front i held) (stepBy rights held w i room page)
+  unfolding stepBy
+  step-tells large = go (soughtBy front i held) refl
     where
       go : (q : Sought) → soughtBy front i held ≡ q → StepTells q (stepOn rights q held w chunk room page)
       go (Starved k) e =
-          let s : Starving cutting-harmless held i k = call-starved cutting-harmless held i k few e in
           record {
             reported = one-not-zero;
             all-taken = λ z. refl;
+            no-error = λ z. refl;
             no-save = λ z. refl;
             room-same = λ z. refl;
             page-same = λ z. refl;
             settings-same = λ z. refl;
-            sum = omega (arith, s .inside, length-append held chunk, length-drop k (held ++ chunk));
           }
       go (Found k n good) e =
-          let s = call-sized cutting-harmless held i k n good e in
           record {
             reported = λ z. answer-reply (receivedOf good (drop k (held ++ chunk))) large;
             all-taken = zero-not-one;
+            no-error = zero-not-one;
             no-save = zero-not-one;
             room-same = zero-not-one;
             page-same = zero-not-one;
             settings-same = zero-not-one;
-            sum = found-sum k n good (s .some) (omega (arith, s .inside, length-append held chunk));
           }
 
 -- ---- a call
@@ -260,31 +284,35 @@ passed port b room page e =
 held-few : (p : Port) → p .held ≤ portRoom → length (heldBytes p) ≤ portRoom
 held-few p h = omega (arith, h, length-take (p .held) (p .bytes))
 
-with-sound : (port : ℕ) (b : Board) (bs : List ℕ) (w : Settings) → SoundParts (b .first .held) (b .second .held) (b .settings) → length bs ≤ portRoom → settingsUsable w ≡ true
-    → isSound (withPort port b (portHolding bs) w) ≡ true
+with-sound : (port : ℕ) (b : Board) (bs : List ℕ) (w : Settings) (t : Tally) → SoundParts (b .first .held) (b .second .held) (b .settings) → length bs ≤ portRoom → settingsUsable w ≡ true
+    → isSound (withPort port b (portHolding bs) w t) ≡ true
 unfolding portHolding
-with-sound zero b bs w p l a = joined (length bs) (b .second .held) w (record { first-few = l; second-few = p .second-few; usable-settings = a })
-with-sound (suc q) b bs w p l a = joined (b .first .held) (length bs) w (record { first-few = p .first-few; second-few = l; usable-settings = a })
+with-sound zero b bs w t p l a = joined (length bs) (b .second .held) w (record { first-few = l; second-few = p .second-few; usable-settings = a })
+with-sound (suc q) b bs w t p l a = joined (b .first .held) (length bs) w (record { first-few = p .first-few; second-few = l; usable-settings = a })
 
 port-few : (port : ℕ) (b : Board) → SoundParts (b .first .held) (b .second .held) (b .settings) → length (heldBytes (portOf port b)) ≤ portRoom
 port-few zero b p = held-few (b .first) (p .first-few)
 port-few (suc q) b p = held-few (b .second) (p .second-few)
 
-with-fed : (port : ℕ) (b : Board) (bs : List ℕ) (w : Settings) → portOf port (withPort port b (portHolding bs) w) ≡ portHolding (heldBytes (portOf port (withPort port b (portHolding bs) w)))
-with-fed zero b bs w = ap portHolding (sym (holding bs))
-with-fed (suc q) b bs w = ap portHolding (sym (holding bs))
+with-fed : (port : ℕ) (b : Board) (bs : List ℕ) (w : Settings) (t : Tally) → portOf port (withPort port b (portHolding bs) w t) ≡ portHolding (heldBytes (portOf port (withPort port b (portHolding bs) w t)))
+with-fed zero b bs w t = ap portHolding (sym (holding bs))
+with-fed (suc q) b bs w t = ap portHolding (sym (holding bs))
 
-pub with-held : (port : ℕ) (b : Board) (bs : List ℕ) (w : Settings) → heldBytes (portOf port (withPort port b (portHolding bs) w)) ≡ bs
-with-held zero b bs w = holding bs
-with-held (suc q) b bs w = holding bs
+pub with-held : (port : ℕ) (b : Board) (bs : List ℕ) (w : Settings) (t : Tally) → heldBytes (portOf port (withPort port b (portHolding bs) w t)) ≡ bs
+with-held zero b bs w t = holding bs
+with-held (suc q) b bs w t = holding bs
 
-pub with-settings : (port : ℕ) (b : Board) (p : Port) (w : Settings) → withPort port b p w .settings ≡ w
-with-settings zero b p w = refl
-with-settings (suc q) b p w = refl
+pub with-settings : (port : ℕ) (b : Board) (p : Port) (w : Settings) (t : Tally) → withPort port b p w t .settings ≡ w
+with-settings zero b p w t = refl
+with-settings (suc q) b p w t = refl
 
-with-other : (port : ℕ) (b : Board) (p : Port) (w : Settings) → portOf (otherPort port) (withPort port b p w) ≡ portOf (otherPort port) b
-with-other zero b p w = refl
-with-other (suc q) b p w = refl
+with-other : (port : ℕ) (b : Board) (p : Port) (w : Settings) (t : Tally) → portOf (otherPort port) (withPort port b p w t) ≡ portOf (otherPort port) b
+with-other zero b p w t = refl
+with-other (suc q) b p w t = refl
+
+with-other-totals : (port : ℕ) (b : Board) (p : Port) (w : Settings) (t : Tally) → tallyAt (otherPort port) (withPort port b p w t) ≡ tallyAt (otherPort port) b
+with-other-totals zero b p w t = refl
+with-other-totals (suc q) b p w t = refl
 
 module _ (port : ℕ) (b : Board) (i : Input) (room page : List ℕ) where
   -- The same statement of a feeding that is given.
@@ -292,12 +320,14 @@ module _ (port : ℕ) (b : Board) (i : Input) (room page : List ℕ) where
     refused : 1 < f .answer .number → f ≡ refusedFeeding (f .answer .number) b room page
     fed-port : f .answer .number ≤ 1 → portOf port (f .answer .board) ≡ portHolding (heldBytes (portOf port (f .answer .board)))
     other-port : f .answer .number ≤ 1 → portOf (otherPort port) (f .answer .board) ≡ portOf (otherPort port) b
+    other-totals : f .answer .number ≤ 1 → tallyAt (otherPort port) (f .answer .board) ≡ tallyAt (otherPort port) b
     saved : f .answer .saved ≡ true → StepSaved (rightsOf (b .readonly) port) (heldBytes (portOf port b)) (b .settings) i room page (f .page)
     unsaved : f .answer .saved ≡ false → f .page ≡ page
     board-sound : isSound b ≡ true → isSound (f .answer .board) ≡ true
     page-stays : pageNumber page ≡ 0 → pageNumber (f .page) ≡ 0
-    reported : f .answer .number ≡ 0 → StepReply (rightsOf (b .readonly) port) (heldBytes (portOf port b)) (b .settings) i room page (f .room)
+    reported : f .answer .number ≡ 0 → StepReply (rightsOf (b .readonly) port) (heldBytes (portOf port b)) (b .settings) i room page (f .room) (f .answer .error)
     all-taken : f .answer .number ≡ 1 → f .answer .taken ≡ length (chunkOf i)
+    no-error : f .answer .number ≡ 1 → f .answer .error ≡ 0
     no-save : f .answer .number ≡ 1 → f .answer .saved ≡ false
     room-same : f .answer .number ≡ 1 → f .room ≡ room
     page-same : f .answer .number ≡ 1 → f .page ≡ page
@@ -311,12 +341,14 @@ module _ (port : ℕ) (b : Board) (i : Input) (room page : List ℕ) where
         refused = λ k. refl;
         fed-port = λ k. (let no : ⊥ = omega (arith, h, k) in absurd no);
         other-port = λ k. refl;
+        other-totals = λ k. refl;
         saved = λ e. differ (sym e);
         unsaved = λ e. refl;
         board-sound = λ s. s;
         page-stays = λ p. p;
         reported = λ k. (let no : ⊥ = omega (arith, h, k) in absurd no);
         all-taken = λ k. (let no : ⊥ = omega (arith, h, k) in absurd no);
+        no-error = λ k. refl;
         no-save = λ k. refl;
         room-same = λ k. refl;
         page-same = λ k. refl;
@@ -332,24 +364,27 @@ module _ (port : ℕ) (b : Board) (i : Input) (room page : List ℕ) where
       let s = parts (b .first .held) (b .second .held) (b .settings) (p .sound-board) in
       let h : sound page ≡ true = page-sound page (p .passing-page) in
       let k = step-keeps (rightsOf (b .readonly) port) (heldBytes (portOf port b)) (b .settings) i room page h (s .usable-settings) (p .large-room) in
-      let t = step-tells (rightsOf (b .readonly) port) (heldBytes (portOf port b)) (b .settings) i room page (port-few port b s) (p .large-room) in
+      let t = step-tells (rightsOf (b .readonly) port) (heldBytes (portOf port b)) (b .settings) i room page (p .large-room) in
+      let adds = step-adds (rightsOf (b .readonly) port) (heldBytes (portOf port b)) (b .settings) i room page (port-few port b s) in
       let few = step-few (rightsOf (b .readonly) port) (heldBytes (portOf port b)) (b .settings) i room page (port-few port b s) in
       let n = step-number (rightsOf (b .readonly) port) (heldBytes (portOf port b)) (b .settings) i room page in
       record {
         refused = λ l. (let no : ⊥ = omega (arith, n, l) in absurd no);
-        fed-port = λ l. with-fed port b (this .held) (this .settings);
-        other-port = λ l. with-other port b (portHolding (this .held)) (this .settings);
+        fed-port = λ l. with-fed port b (this .held) (this .settings) _;
+        other-port = λ l. with-other port b (portHolding (this .held)) (this .settings) _;
+        other-totals = λ l. with-other-totals port b (portHolding (this .held)) (this .settings) _;
         saved = k .saved;
         unsaved = k .unsaved;
-        board-sound = λ e. with-sound port b (this .held) (this .settings) s few (k .settings-usable);
+        board-sound = λ e. with-sound port b (this .held) (this .settings) _ s few (k .settings-usable);
         page-stays = λ e. sound-passes (this .page) (k .page-kept-sound);
         reported = t .reported;
         all-taken = t .all-taken;
+        no-error = t .no-error;
         no-save = t .no-save;
         room-same = t .room-same;
         page-same = t .page-same;
-        settings-same = λ e. with-settings port b (portHolding (this .held)) (this .settings) ∙ t .settings-same e;
-        sum = λ l. rw (with-held port b (this .held) (this .settings)) (t .sum);
+        settings-same = λ e. with-settings port b (portHolding (this .held)) (this .settings) _ ∙ t .settings-same e;
+        sum = λ l. rw (with-held port b (this .held) (this .settings) (tallyAfter this port b)) (adds .sum);
       }
 
   -- A number of the tests is 0, or one from 16 on.
@@ -383,9 +418,9 @@ calls-keep port b i room page =
     record {
       refused = k .refused;
       profile = call-profile port b i room page;
-      ports = λ l. record { fed-port = k .fed-port l; other-port = k .other-port l };
-      reported = λ e. (let r = k .reported e in record { reply = r .reply; whole = r .whole; fits = r .fits; room-after = r .room-after });
-      used-up = λ e. record { all-taken = k .all-taken e; no-save = k .no-save e; room-same = k .room-same e; page-same = k .page-same e; settings-same = k .settings-same e };
+      ports = λ l. record { fed-port = k .fed-port l; other-port = k .other-port l; other-totals = k .other-totals l };
+      reported = λ e. (let r = k .reported e in record { reply = r .reply; whole = r .whole; fits = r .fits; room-after = r .room-after; first-error = r .first-error; known-error = r .known-error });
+      used-up = λ e. record { all-taken = k .all-taken e; no-error = k .no-error e; no-save = k .no-save e; room-same = k .room-same e; page-same = k .page-same e; settings-same = k .settings-same e };
       sum = k .sum;
       saved = λ e. (let s = k .saved e in record { before = s .before; size = s .size; good = s .good; found = s .found; at-least-one = s .some-puts; written = s .written });
       unsaved = k .unsaved;

@@ -38,8 +38,8 @@ use Rattle.board.specs.Feed.{Feeding, PortStep, feedNumber, stepOn, step
 use Rattle.board.specs.Handling.{Kept}
 use Rattle.board.specs.Runs.{Call, Calls, callsFrom}
 use Rattle.board.specs.Histories.{actsFrom, actThen, NoRestart, OneActMore, carriedAt, numberFound, acceptedWith, acceptedBy, acceptedFrom, MarkIsFresh, MarksFresh, lastAfter, NoNumberTwice, onPortZero, ReplayChangesNothing}
+use Rattle.board.proofs.Follows.{page-sound}
 use Rattle.board.proofs.Feedings.{Passed, passed, with-settings}
-use Rattle.board.proofs.Reckons.{page-sound}
 
 -- ---- a history, act by act
 
@@ -208,7 +208,7 @@ module _ (b : Board) (page : List ℕ) (c : Call) where
       go : (i : ℕ) → number ≡ i → Marks n (feedingAs i .answer .number) (feedingAs i .answer .saved) (feedingAs i .answer .board .settings) (feedingAs i .page)
       go zero h =
           let m = step-marks (passed (c .port) b (c .room) page h) (soughtBy front (c .input) held) n e in
-          let w = with-settings (c .port) b (portHolding (stepFor (soughtBy front (c .input) held) .held)) (stepFor (soughtBy front (c .input) held) .settings) in
+          let w = with-settings (c .port) b (portHolding (stepFor (soughtBy front (c .input) held) .held)) (stepFor (soughtBy front (c .input) held) .settings) _ in
           record { answered-so = m .answered-so; unmarked = λ z. (w ∙ m .unmarked z .0, m .unmarked z .1) }
       go (suc i) h = record { answered-so = λ z. (let no : ⊥ = omega (arith, z) in absurd no); unmarked = λ z. (refl, refl) }
 
@@ -275,7 +275,7 @@ module _ (b : Board) (page : List ℕ) (c : Call) (last : ℕ) (zeroth : c .port
       go zero h =
           let q : Sought = soughtBy front (c .input) (held b page c) in
           let s = step-same (passed (c .port) b (c .room) page h) q e in
-          let w = with-settings (c .port) b (portHolding (stepFor b page c q .held)) (stepFor b page c q .settings) in
+          let w = with-settings (c .port) b (portHolding (stepFor b page c q .held)) (stepFor b page c q .settings) _ in
           record { settings-same = w ∙ s .settings-same; page-same = s .page-same }
       go (suc i) h = record { settings-same = refl; page-same = refl }
 

@@ -18,7 +18,7 @@ use Rattle.message.specs.Front.{front, mostUndecided}
 use Rattle.message.proofs.Framed.{cutting-harmless}
 use Rattle.page.specs.Sound.{pageNumber}
 use Rattle.command.specs.declared.settings.Settings.{Settings}
-use Rattle.command.specs.Outcome.{receivedOf}
+use Rattle.command.specs.Outcome.{receivedOf, errorIn}
 use Rattle.command.specs.Rights.{readOnlyRights}
 use Rattle.command.specs.Answer.{Answering, pageAccess, replyRoom}
 use Rattle.command.proofs.Pages.{answer-large}
@@ -33,7 +33,7 @@ use Rattle.board.specs.Runs.{Call, callsFrom, callFrom, toldOf}
 use Rattle.board.specs.Interference.{Unchanged, SecondReads, Seen, seenOf, seenBy, NoInterference}
 use Rattle.board.proofs.Feedings.{passed}
 use Rattle.board.proofs.Steps.{stateOf, Padded, Same, step-same}
-use Rattle.board.proofs.Reckons.{fresh-padded}
+use Rattle.board.proofs.Begins.{fresh-padded}
 
 -- ---- port 1 changes nothing
 
@@ -88,6 +88,7 @@ seenAs s =
         number = s .answer .number;
         taken = s .answer .taken;
         skipped = s .answer .skipped;
+        error = errorIn (s .answer .reply);
         saved = s .answer .saved;
         reply = s .answer .reply;
       };
@@ -110,7 +111,7 @@ programStep profile = heldStep front (handleMessage profile) 260 replyRoom keptT
 
 one-seen : (b : Board) (c : Call) (f : Feeding) (s : Step (State (List ℕ) Kept)) → Same b c f s
     → seenOf f ≡ seenAs (record { answer = s .answer; held = s .state .port0; values = s .state .values })
-one-seen b c f s e = rw (e .state, ← e .told .number, ← e .told .taken, ← e .told .skipped, ← e .told .saved, ← e .reply)
+one-seen b c f s e = rw (e .state, ← e .told .number, ← e .told .taken, ← e .told .skipped, ← e .told .error, ← e .told .saved, ← e .reply)
 
 seen-followed : (cs : List Call) (b : Board) (page : List ℕ) → Padded b
     → seenBy cs (callsFrom b page cs .feedings) ≡ allSeen (seenFrom (programStep (b .readonly)) (stateOf b page) (toldOf cs))

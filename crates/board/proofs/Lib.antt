@@ -1,4 +1,5 @@
 pub mod Alone
+pub mod Begins
 pub mod Feedings
 pub mod Follows
 pub mod Handles
@@ -13,4 +14,5 @@ pub mod Sampled
 pub mod Silences
 pub mod Starts
 pub mod Steps
+pub mod Tallied
 pub mod Unprofiled

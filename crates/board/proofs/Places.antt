@@ -27,6 +27,8 @@ use Rattle.command.specs.Outcome.{receivedOf}
 use Rattle.command.specs.declared.answer.Answer.{Answer}
 use Rattle.command.specs.Answer.{Answering, answering}
 use Rattle.command.specs.Effects.{settingsUsable}
+use Rattle.totals.specs.declared.Tally.{Tally}
+use Rattle.totals.specs.Tally.{countedOf}
 use Rattle.board.specs.Profile.{rightsOf}
 use Rattle.board.specs.declared.feeding.Stepped.{Stepped}
 use Rattle.board.specs.declared.board.Board.{Board}
@@ -61,8 +63,8 @@ module _ (b chunk : List ℕ) (held : ℕ) (few : held ≤ 260) (long : length b
     starved-long = sym (length-drop k (take held b ++ chunk) ∙ ap (λ (i : ℕ). i - k) row-long)
 
     pub starved-answer : (w : Settings) → _≡_ {A = Stepped}
-        (record { number = 1; taken = length chunk; skipped = k; saved = false; held = held + length chunk - k; settings = w })
-        (record { number = 1; taken = length chunk; skipped = k; saved = false; held = length (drop k (take held b ++ chunk)); settings = w })
+        (record { number = 1; taken = length chunk; skipped = k; error = 0; saved = false; held = held + length chunk - k; settings = w })
+        (record { number = 1; taken = length chunk; skipped = k; error = 0; saved = false; held = length (drop k (take held b ++ chunk)); settings = w })
     starved-answer w = rw starved-long
 
     pub starved-kept : (y : List ℕ) → y ≡ padded (take (held + length chunk - k) (drop k (take held b ++ chunk))) → y ≡ padded (drop k (take held b ++ chunk))
@@ -78,13 +80,13 @@ module _ (b chunk : List ℕ) (held : ℕ) (few : held ≤ 260) (long : length b
         → record { answer = a; room = roomAfter; page = pageAfter } ≡ answering rights (receivedOf good (drop k (take held b ++ chunk))) w room page
         → (l : ℕ) → l ≡ length (leftOf k n good (take held b) chunk)
         → (y : List ℕ) → y ≡ padded (leftOf k n good (take held b) chunk)
-        → (r : Stepped) → r ≡ record { number = 0; taken = k + n - held; skipped = skippedBy k good; saved = a .saved; held = l; settings = a .settings }
+        → (r : Stepped) → r ≡ record { number = 0; taken = k + n - held; skipped = skippedBy k good; error = a .error; saved = a .saved; held = l; settings = a .settings }
         → record { step = r; bytes = y; room = roomAfter; page = pageAfter } ≡ inPlace (stepOn rights (Found k n good) (take held b) w chunk room page)
     found-step rights w room page a roomAfter pageAfter g l ls y ys r rs =
         let h : k + n - length (take held b) ≡ k + n - held = ap (λ (i : ℕ). k + n - i) held-long in
         rw (rs, ys, ls, ← h)
         (ap (λ (g : Answering). record {
-          step = record { number = 0; taken = k + n - length (take held b); skipped = skippedBy k good; saved = g .answer .saved; held = length (leftOf k n good (take held b) chunk); settings = g .answer .settings };
+          step = record { number = 0; taken = k + n - length (take held b); skipped = skippedBy k good; error = g .answer .error; saved = g .answer .saved; held = length (leftOf k n good (take held b) chunk); settings = g .answer .settings };
           bytes = padded (leftOf k n good (take held b) chunk);
           room = g .room;
           page = g .page;
@@ -141,7 +143,7 @@ module _ (b chunk : List ℕ) (held : ℕ) (few : held ≤ 260) (long : length b
     starved-few = omega (arith, row, left-few, length-drop k (take held b ++ chunk))
 
     pub starved-step : (rights : Rights) (w : Settings) (room page y : List ℕ) (r : Stepped)
-        → r ≡ record { number = 1; taken = length chunk; skipped = k; saved = false; held = length (drop k (take held b ++ chunk)); settings = w }
+        → r ≡ record { number = 1; taken = length chunk; skipped = k; error = 0; saved = false; held = length (drop k (take held b ++ chunk)); settings = w }
         → y ≡ padded (drop k (take held b ++ chunk))
         → record { step = r; bytes = y; room = room; page = page } ≡ inPlace (stepAt rights quiet (take held b) w chunk room page)
     starved-step rights w room page y r rs ys = rw (← is, e, rs, ys)
@@ -193,38 +195,63 @@ module _ (quiet : Bool) (chunk : List ℕ) (brings : ℕ) (bs : brings ≡ lengt
 -- ---- the step put back into the board
 
 abbrev fedBy : Stepping → Board → Feeding
-fedBy t b = record { answer = record { number = t .step .number; taken = t .step .taken; skipped = t .step .skipped; saved = t .step .saved; board = b }; room = t .room; page = t .page }
+fedBy t b = record { answer = record { number = t .step .number; taken = t .step .taken; skipped = t .step .skipped; error = t .step .error; saved = t .step .saved; board = b }; room = t .room; page = t .page }
 
-module _ (b : Board) (s : PortStep) (r : Stepped) (y room page : List ℕ) (e : record { step = r; bytes = y; room = room; page = page } ≡ inPlace s) where
-  pub fed-first :
+module _ (b : Board) (s : PortStep) (r : Stepped) (y room page : List ℕ) (e : record { step = r; bytes = y; room = room; page = page } ≡ inPlace s)
+    (t : Tally) where
+  -- The totals of a port that held so many bytes.
+  abbrev countedBy : Tally → ℕ → Stepped → Tally
+  countedBy t held r = countedOf t (r .number) (r .taken) (r .skipped) (r .error) held (r .held)
+
+  pub fed-first : t ≡ countedBy (b .tally0) (b .first .held) r →
       record {
         answer = record {
           number = r .number;
           taken = r .taken;
           skipped = r .skipped;
+          error = r .error;
           saved = r .saved;
-          board = record { first = record { bytes = y; held = r .held }; second = b .second; settings = r .settings; readonly = b .readonly };
+          board = record { first = record { bytes = y; held = r .held }; second = b .second; settings = r .settings; readonly = b .readonly; tally0 = t; tally1 = b .tally1 };
         };
         room = room;
         page = page;
       } ≡ feedOn s 0 b
   unfolding portHolding
-  fed-first = ap (λ (t : Stepping). fedBy t (record { first = record { bytes = t .bytes; held = t .step .held }; second = b .second; settings = t .step .settings; readonly = b .readonly })) e
+  fed-first c =
+      rw c
+      (ap (λ (t : Stepping). fedBy t (record {
+        first = record { bytes = t .bytes; held = t .step .held };
+        second = b .second;
+        settings = t .step .settings;
+        readonly = b .readonly;
+        tally0 = countedBy (b .tally0) (b .first .held) (t .step);
+        tally1 = b .tally1;
+      })) e)
 
-  pub fed-second :
+  pub fed-second : t ≡ countedBy (b .tally1) (b .second .held) r →
       record {
         answer = record {
           number = r .number;
           taken = r .taken;
           skipped = r .skipped;
+          error = r .error;
           saved = r .saved;
-          board = record { first = b .first; second = record { bytes = y; held = r .held }; settings = r .settings; readonly = b .readonly };
+          board = record { first = b .first; second = record { bytes = y; held = r .held }; settings = r .settings; readonly = b .readonly; tally0 = b .tally0; tally1 = t };
         };
         room = room;
         page = page;
       } ≡ feedOn s 1 b
   unfolding portHolding
-  fed-second = ap (λ (t : Stepping). fedBy t (record { first = b .first; second = record { bytes = t .bytes; held = t .step .held }; settings = t .step .settings; readonly = b .readonly })) e
+  fed-second c =
+      rw c
+      (ap (λ (t : Stepping). fedBy t (record {
+        first = b .first;
+        second = record { bytes = t .bytes; held = t .step .held };
+        settings = t .step .settings;
+        readonly = b .readonly;
+        tally0 = b .tally0;
+        tally1 = countedBy (b .tally1) (b .second .held) (t .step);
+      })) e)
 
 -- ---- the tests, then the port
 
@@ -250,7 +277,7 @@ module _ (port : ℕ) (b : Board) (room page : List ℕ) (n : ℕ) (ns : n ≡ f
   second-sound z = ltb-false 260 (b .second .held) (sound z .1)
 
   module _ (i : Input) where
-    pub feed-refused : (n ≡ 0 → ⊥) → record { answer = record { number = n; taken = 0; skipped = 0; saved = false; board = b }; room = room; page = page } ≡ callOf port b i room page
+    pub feed-refused : (n ≡ 0 → ⊥) → record { answer = record { number = n; taken = 0; skipped = 0; error = 0; saved = false; board = b }; room = room; page = page } ≡ callOf port b i room page
     unfolding callOf
     feed-refused h = rw (← ns) (go n h)
       where

@@ -8,13 +8,16 @@ use lib.Dec.{eqb}
 use lib.ListN.{length}
 use Rattle.history.specs.Calls.{Answer, Run, State, run}
 use Rattle.history.specs.Calls.{Call as CallOf, portOf as keptPort}
-use Rattle.history.specs.Reckoning.{Ledger, heldOf}
+use Rattle.history.specs.Reckoning.{Ledger, fresh, heldOf, reckonStep, reckoning}
+use Rattle.history.specs.Restarts.{Act, call, startedOn, drainedActs}
+use Rattle.history.specs.Restarts.{calls as asActs}
 use Rattle.history.specs.Program.{heldStep, heldProgram}
 use Rattle.history.specs.Ports.{PortHistory, unfed, historyAfter, historyOf, PortSum, PortAccount}
 use Rattle.history.specs.Drained.{Undrained, noSilence, undrainedOf, undrainedAfter, early, unlessEarly, drainedFrom, drained}
 use Rattle.history.specs.Premises.{Matches}
 use Rattle.history.proofs.Accounts.{portAccounts}
 use Rattle.history.proofs.Demand.{demand3, drainedAlike}
+use Rattle.history.proofs.Driven.{without-restarts, drained-without-restarts}
 use Rattle.history.proofs.Silences.{feedsDrained}
 use Rattle.history.proofs.Sums.{heldFew, portSums}
 use Rattle.message.specs.Front.{front, mostUndecided}
@@ -37,9 +40,14 @@ use Rattle.board.specs.Feed.{Feeding, callOf}
 use Rattle.board.specs.Handling.{Reckoned, Kept, loadedOf, settingsOf, reckonMessage, handleMessage, keptTests, StoredAs}
 use Rattle.board.specs.Runs.{Call, Calls, callsFrom, callsOn, callFrom, toldOf, reckonedOn, Told, AllTold}
 use Rattle.board.specs.Theorems.{AsReckoned, Demand3, FeedsDemand3, OneMore, answersOf, AnyListsAddUp, DrainedOn, DrainedAlike, historyOn, heldOn, PortAddsUp, SumLaw, ReportsScanned}
-use Rattle.board.proofs.Follows.{call-profile, start-profile}
-use Rattle.board.proofs.Handles.{loaded-same, loaded-usable, handles}
+use Rattle.board.proofs.Follows.{call-profile, start-profile, page-sound}
+use Rattle.board.specs.Histories.{actsFrom}
+use Rattle.board.specs.Restarts.{toldActs, startAnew}
+use Rattle.board.proofs.Begins.{settings-usable, started, fresh-padded}
+use Rattle.board.proofs.Handles.{handles}
+use Rattle.board.proofs.Histories.{no-restart}
 use Rattle.board.proofs.Steps.{stateOf, Padded, Same, step-same}
+use Rattle.board.proofs.Tallied.{Reckons, reckonedFrom, started-reckon}
 
 -- ---- lists of calls of the board are lists of calls of the program that keeps only held bytes
 
@@ -78,8 +86,8 @@ told-drained u (c ∷ cs) (f ∷ fs) (a ∷ answers) e =
 
 -- Where that program matches the reckoning, the calls go as reckoned.
 pub followed-reckoned : (cs : List Call) (r : Calls) (p : Run (State (List ℕ) Kept)) (q : Run (State Ledger Reckoned)) → Followed cs r p → Matches StoredAs q p
-    → length (p .final .port0) ≤ portRoom → length (p .final .port1) ≤ portRoom → AsReckoned cs r q
-followed-reckoned cs r p q f m few0 few1 =
+    → length (p .final .port0) ≤ portRoom → length (p .final .port1) ≤ portRoom → ((port : ℕ) → port ≤ 1 → Reckons port (r .board) (q .final)) → AsReckoned cs r q
+followed-reckoned cs r p q f m few0 few1 totals =
     let h0 : heldBytes (r .board .first) ≡ heldOf (q .final .port0) = ap (λ (s : State (List ℕ) Kept). s .port0) (sym (f .final)) ∙ m .held0 in
     let h1 : heldBytes (r .board .second) ≡ heldOf (q .final .port1) = ap (λ (s : State (List ℕ) Kept). s .port1) (sym (f .final)) ∙ m .held1 in
     record {
@@ -90,23 +98,13 @@ followed-reckoned cs r p q f m few0 few1 =
       first-few = rw (m .held0) at few0;
       second-few = rw (m .held1) at few1;
       page-written = ap (λ (s : State (List ℕ) Kept). s .values .page) (sym (f .final)) ∙ m .values .page;
+      first-totals = totals 0 (omega arith);
+      second-totals = totals 1 (omega arith);
     }
 
--- ---- the start
-
-settings-same : (v : Values) → allStorable v ≡ true → settingsFrom (writing v) ≡ settingsOf v
-settings-same v a = rw (← loaded-same v a)
-
-pub settings-usable : (v : Values) → allStorable v ≡ true → settingsUsable (settingsOf v) ≡ true
-settings-usable v a = starts-usable (loadedOf v) (loaded-usable v a)
-
-pub started : (profile : Profile) (v : Values) → allStorable v ≡ true → startOf profile (writing v) ≡ record { number = 0; board = freshBoard profile (settingsOf v) }
-unfolding startOf
-started profile v a = rw (sound-passes (writing v) (writing-sound v a)) (ap (λ (w : Settings). record { number = 0; board = freshBoard profile w }) (settings-same v a))
-
-pub fresh-padded : (profile : Profile) (w : Settings) → Padded (freshBoard profile w)
-unfolding portHolding
-fresh-padded profile w = record { first = refl; second = refl }
+told-list : (cs : List Call) → toldActs (asActs cs) ≡ asActs {Profile = Profile} (toldOf cs)
+told-list [] = refl
+told-list (c ∷ cs) = ap (λ (acts : List (Act Profile CallOf)). call (callFrom c) ∷ acts) (told-list cs)
 
 -- ---- the whole
 
@@ -150,8 +148,24 @@ module _ (profile : Profile) (v : Values) (cs : List Call) (a : allStorable v �
       demand3 front mostUndecided replyRoom StoredAs (reckonMessage profile) keptTests (handleMessage profile) cutting-harmless (handles profile)
       (record { settings = w; page = v }) (record { settings = w; page = writing v }) (toldOf cs) stored (sym reckoned-alike ∙ d)
 
+  -- A list is a history without restarts.
+  list-totals : (port : ℕ) → port ≤ 1 → drained (toldOf cs) (reckoned .answers) ≡ true → Reckons port (calls .board) (reckoned .final)
+  unfolding reckoning
+  list-totals port h d =
+      let s : State Ledger Reckoned = startedOn fresh startAnew (record { settings = w; page = v }) in
+      let told : toldActs (asActs cs) ≡ asActs (toldOf cs) = told-list cs in
+      let same : reckonedFrom profile s (toldActs (asActs cs)) ≡ reckoned =
+      ap (reckonedFrom profile s) told
+      ∙ without-restarts Profile (State Ledger Reckoned) (λ p. reckonStep front (reckonMessage p) replyRoom) (λ t. startedOn fresh startAnew (t .values)) profile s (toldOf cs) in
+      let made : actsFrom (startOf profile (writing v) .board) (writing v) (asActs cs) ≡ calls =
+      no-restart (startOf profile (writing v) .board) (writing v) cs ∙ ap (λ (t : Started). callsFrom (t .board) (writing v) cs) (started profile v a) in
+      let drains : drainedActs noSilence (toldActs (asActs cs)) (reckonedFrom profile s (toldActs (asActs cs)) .answers) ≡ true =
+      rw (same, told) (drained-without-restarts Profile (toldOf cs) (reckoned .answers) ∙ d) in
+      let all = started-reckon port h profile (writing v) (record { settings = w; page = v }) (record { settings = w; page = writing v }) (asActs cs) refl stored drains in
+      rw (made, same) at all
+
   whole : drained (toldOf cs) (answersOf (calls .feedings)) ≡ true → AsReckoned cs calls reckoned
-  whole d = followed-reckoned cs calls program reckoned follows (matched d) (few 0) (few 1)
+  whole d = followed-reckoned cs calls program reckoned follows (matched d) (few 0) (few 1) (λ port h. list-totals port h (sym reckoned-alike ∙ d))
 
   port-held : (port : ℕ) → keptPort port (program .final) ≡ heldBytes (portOf port (calls .board))
   port-held port = ap (keptPort port) (follows .final) ∙ by-port port
@@ -200,15 +214,6 @@ as-reckoned : (profile : Profile) (v : Values) (cs : List Call) → allStorable 
 as-reckoned profile v cs a d = rw (start-board profile v a) (whole profile v cs a (rw (start-board profile v a) at d))
 
 -- ---- every page that starting accepts
-
-pub page-sound : (page : List ℕ) → pageNumber page ≡ 0 → sound page ≡ true
-unfolding pageNumber
-page-sound page e = go (eqb (length page) pageSize) refl (sound page) refl
-  where
-    go : (l : Bool) → eqb (length page) pageSize ≡ l → (s : Bool) → sound page ≡ s → s ≡ true
-    go false p s q = let z : _≡_ {A = ℕ} 0 19 = cc in absurd (omega arith)
-    go true p true q = refl
-    go true p false q = let z : _≡_ {A = ℕ} 0 20 = cc in absurd (omega arith)
 
 -- No list of calls changes the profile.
 list-profile : (cs : List Call) (b : Board) (page : List ℕ) → callsFrom b page cs .board .readonly ≡ b .readonly

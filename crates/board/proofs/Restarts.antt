@@ -10,7 +10,7 @@ use Rattle.history.specs.Calls.{Call as CallOf, portOf as keptPort}
 use Rattle.history.specs.Drained.{Undrained, noSilence, undrainedOf, undrainedAfter, early, unlessEarly}
 use Rattle.history.specs.Premises.{Matches}
 use Rattle.history.specs.Program.{heldStep}
-use Rattle.history.specs.Restarts.{Act, call, restart, historyFrom, startedOn, heldHistory, drainedActs, drainedHistory}
+use Rattle.history.specs.Restarts.{Act, call, restart, historyFrom, startedOn, heldHistory, reckonedHistory, drainedActs, drainedHistory}
 use Rattle.history.proofs.Restarts.{restarts-match, restarts-drained-alike}
 use Rattle.history.proofs.Silences.{fedActsDrained}
 use Rattle.history.proofs.Sound.{restarts-stay-sound}
@@ -33,41 +33,12 @@ use Rattle.board.specs.Histories.{actsFrom, actsOn, acceptedFrom, accept
 use Rattle.board.specs.Theorems.{answersOf}
 use Rattle.board.specs.Restarts.{callsIn, toldActs, startAnew, reckonedActs, acceptedIn, profileAfter, ProfileStays, HistoryDemand3, HistoryFeedsDemand3, HistoryDrainedAlike}
 use Rattle.board.proofs.Feedings.{calls-keep}
-use Rattle.board.proofs.Follows.{call-profile, start-profile}
+use Rattle.board.proofs.Follows.{call-profile, start-profile, page-sound}
 use Rattle.board.proofs.Handles.{handles}
-use Rattle.board.proofs.Reckons.{Followed, followed-reckoned, settings-usable, started, fresh-padded, page-sound}
+use Rattle.board.proofs.Begins.{settings-usable, start-padded, startKept, start-state, starts-alike}
+use Rattle.board.proofs.Reckons.{Followed, followed-reckoned}
 use Rattle.board.proofs.Steps.{stateOf, Padded, Same, step-same}
-
--- ---- starting anew
-
--- A started board is fresh, whatever the page, and its settings are the same in every profile.
-start-fresh : (profile : Profile) (page : List ℕ) → startOf profile page .board ≡ freshBoard profile (startOf full page .board .settings)
-unfolding startOf
-start-fresh profile page = go (pageNumber page)
-  where
-    go : (n : ℕ) → startOn n profile page .board ≡ freshBoard profile (startOn n full page .board .settings)
-    go zero = refl
-    go (suc n) = refl
-
-start-padded : (profile : Profile) (page : List ℕ) → Padded (startOf profile page .board)
-start-padded profile page = subst Padded (sym (start-fresh profile page)) (fresh-padded profile (startOf full page .board .settings))
-
--- The board's start, as the program that keeps only held bytes makes it.
-abbrev startKept : Kept → Kept
-startKept x = record { settings = startOf full (x .page) .board .settings; page = x .page }
-
-start-state : (profile : Profile) (x : Kept) → startedOn [] startKept x ≡ stateOf (startOf profile (x .page) .board) (x .page)
-start-state profile x = sym (ap (λ (b : Board). stateOf b (x .page)) (start-fresh profile (x .page)))
-
-starts-alike : (x : Reckoned) (y : Kept) → StoredAs x y → StoredAs (startAnew x) (startKept y)
-starts-alike x y r =
-    record {
-      settings =
-          sym (ap (λ (p : List ℕ). startOf full p .board .settings) (r .page) ∙ ap (λ (s : Started). s .board .settings) (started full (x .page) (r .values-storable)));
-      page = r .page;
-      settings-usable = settings-usable (x .page) (r .values-storable);
-      values-storable = r .values-storable;
-    }
+use Rattle.board.proofs.Tallied.{Reckons, started-reckon}
 
 -- ---- histories of the board are histories of that program
 
@@ -193,6 +164,11 @@ module _ (profile : Profile) (page : List ℕ) (acts : List (Act Profile Call)) 
       restarts-match front mostUndecided replyRoom StoredAs reckonMessage keptTests handleMessage startAnew startKept cutting-harmless handles starts-alike
       profile reckoned kept (toldActs acts) stored (sym alike ∙ d)
 
+  totals : drainedHistory (toldActs acts) (answersOf (actsOn profile page acts .feedings)) ≡ true
+      → (port : ℕ) → port ≤ 1 → Reckons port (actsOn profile page acts .board) (reckonedActs profile values acts .final)
+  unfolding reckonedHistory
+  totals d port h = started-reckon port h profile page reckoned kept acts refl stored (sym alike ∙ d)
+
 pub history-drained-alike : HistoryDrainedAlike
 history-drained-alike = alike
 
@@ -205,7 +181,7 @@ history-demand3 profile page acts e d =
       values = valuesIn page;
       storable-values = i .storable-values;
       written = i .written;
-      reckoned = followed-reckoned (callsIn acts) (actsOn profile page acts) (program profile page acts e) (reckonedActs profile (valuesIn page) acts) (f .calls-told) m (few profile page acts e 0) (few profile page acts e 1);
+      reckoned = followed-reckoned (callsIn acts) (actsOn profile page acts) (program profile page acts e) (reckonedActs profile (valuesIn page) acts) (f .calls-told) m (few profile page acts e 0) (few profile page acts e 1) (totals profile page acts e d);
       profile-kept = profile-stays (startOf profile page .board) page acts ∙ ap (λ (p : Profile). profileAfter p acts) (start-profile profile page);
       started = λ next. start-done next (actsOn profile page acts .page) (acts-passing (startOf profile page .board) page acts e);
       accepted = f .accepted-told ∙ ap acceptedIn (m .answers);

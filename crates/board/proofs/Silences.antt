@@ -17,10 +17,11 @@ use Rattle.message.specs.Front.{front, mostUndecided}
 use Rattle.message.proofs.Framed.{cutting-harmless}
 use Rattle.command.specs.declared.rights.Rights.{Rights}
 use Rattle.command.specs.declared.settings.Settings.{Settings}
+use Rattle.totals.specs.declared.Tally.{Tally}
 use Rattle.board.specs.Profile.{rightsOf}
 use Rattle.board.specs.declared.board.Board.{Board}
 use Rattle.board.specs.Port.{heldBytes, portHolding, portOf, withPort}
-use Rattle.board.specs.Feed.{PortStep, feedNumber, stepOn, stepBy, acceptOn, callOf}
+use Rattle.board.specs.Feed.{PortStep, feedNumber, stepOn, stepBy, acceptOn, callOf, tallyAfter}
 use Rattle.board.specs.Silences.{SilenceDrains, SilencesDrain}
 use Rattle.board.proofs.Feedings.{with-held, by-number}
 use Rattle.board.proofs.Places.{resume-past}
@@ -61,9 +62,9 @@ module _ (rights : Rights) (held : List ℕ) (w : Settings) (room page : List �
             all-skipped = λ z. (let no : ⊥ = omega (arith, z) in absurd no);
           }
 
-after-port : (port : ℕ) (b : Board) (bs : List ℕ) (w : Settings) → portOf port (withPort port b (portHolding bs) w) ≡ portHolding bs
-after-port zero b bs w = refl
-after-port (suc p) b bs w = refl
+after-port : (port : ℕ) (b : Board) (bs : List ℕ) (w : Settings) (t : Tally) → portOf port (withPort port b (portHolding bs) w t) ≡ portHolding bs
+after-port zero b bs w t = refl
+after-port (suc p) b bs w t = refl
 
 module _ (port : ℕ) (b : Board) (room page : List ℕ) where
   abbrev held : List ℕ
@@ -79,8 +80,8 @@ module _ (port : ℕ) (b : Board) (room page : List ℕ) where
           let d = step-drains (rightsOf (b .readonly) port) held (b .settings) room page in
           record {
             none-taken = d .none-taken;
-            fewer = λ z. rw (with-held port b (s .held) (s .settings)) (d .fewer z);
-            emptied = λ z. after-port port b (s .held) (s .settings) ∙ ap portHolding (d .emptied z);
+            fewer = λ z. rw (with-held port b (s .held) (s .settings) (tallyAfter s port b)) (d .fewer z);
+            emptied = λ z. after-port port b (s .held) (s .settings) _ ∙ ap portHolding (d .emptied z);
             all-skipped = d .all-skipped;
           }
       go (suc n) e =

@@ -18,6 +18,8 @@ use Rattle.command.specs.declared.answer.Answer.{Answer}
 use Rattle.command.specs.Outcome.{receivedOf}
 use Rattle.command.specs.Answer.{settingsFrom, Answering, answering}
 use Rattle.command.specs.Effects.{settingsUsable}
+use Rattle.totals.specs.declared.Tally.{Tally}
+use Rattle.totals.specs.Tally.{zeroTally}
 use Rattle.board.specs.Profile.{Profile, full, rightsOf}
 use Rattle.board.specs.declared.feeding.Stepped.{Stepped}
 use Rattle.board.specs.declared.port.Port.{Port}
@@ -43,8 +45,9 @@ module _ (profile : Profile) (page : List ℕ) (n : ℕ) (ns : n ≡ pageNumber 
       go zero = refl
       go (suc n) = refl
 
-  pub start-fresh : (a b : Port) → a ≡ freshPort → b ≡ freshPort → record { number = n; board = record { first = a; second = b; settings = w; readonly = profile } } ≡ startOf profile page
-  start-fresh a b p q = rw (p, q) start-made
+  pub start-fresh : (a b : Port) → a ≡ freshPort → b ≡ freshPort → (x y : Tally) → x ≡ zeroTally → y ≡ zeroTally
+      → record { number = n; board = record { first = a; second = b; settings = w; readonly = profile; tally0 = x; tally1 = y } } ≡ startOf profile page
+  start-fresh a b p q x y u v = rw (p, q, u, v) start-made
 
   module _ (first second : List ℕ) (fs : length first ≡ 260) (ss : length second ≡ 260) where
     pub place-made : (a b : List ℕ) → a ≡ take 0 first ++ replicate (260 - 0) 0 → b ≡ take 0 second ++ replicate (260 - 0) 0
@@ -117,8 +120,8 @@ module _ (k : ℕ) (good : Bool) where
 
 -- What a step answers that found a message: what it took and skipped is what these say.
 pub found-reported : (held k n left : ℕ) (good : Bool) (a : Answer) (taken skipped : ℕ) → taken ≡ k + n - held → skipped ≡ skippedBy k good
-    → _≡_ {A = Stepped} (record { number = 0; taken = taken; skipped = skipped; saved = a .saved; held = left; settings = a .settings })
-    (record { number = 0; taken = k + n - held; skipped = skippedBy k good; saved = a .saved; held = left; settings = a .settings })
+    → _≡_ {A = Stepped} (record { number = 0; taken = taken; skipped = skipped; error = a .error; saved = a .saved; held = left; settings = a .settings })
+    (record { number = 0; taken = k + n - held; skipped = skippedBy k good; error = a .error; saved = a .saved; held = left; settings = a .settings })
 found-reported held k n left good a taken skipped p q = rw (p, q)
 
 pub drop-take : (k held : ℕ) (l : List ℕ) → k ≤ held → held ≤ length l → drop k (take held l) ≡ take (held - k) (drop k l)

@@ -21,6 +21,7 @@ use Rattle.message.specs.Whole.{refuse}
 use Rattle.page.specs.Page.{pageSize}
 use Rattle.page.specs.Sound.{sound, pageNumber}
 use Rattle.command.specs.declared.settings.Settings.{Settings}
+use Rattle.totals.specs.declared.Tally.{Tally}
 use Rattle.command.specs.Outcome.{Received, receivedOf}
 use Rattle.command.specs.Answer.{pageAccess, Answering, answering, replyRoom}
 use Rattle.command.proofs.Rows.{message-most}
@@ -48,7 +49,7 @@ pub record Padded (b : Board) : Type 0 where
   pub second : b .second ≡ portHolding (heldBytes (b .second))
 
 -- So its count is that of the bytes.
-count-is : (p : Port) → p ≡ portHolding (heldBytes p) → p .held ≡ length (heldBytes p)
+pub count-is : (p : Port) → p ≡ portHolding (heldBytes p) → p .held ≡ length (heldBytes p)
 unfolding portHolding
 count-is p e = ap (λ (q : Port). q .held) e
 
@@ -65,9 +66,9 @@ holding-padded : (bs : List ℕ) → portHolding bs ≡ portHolding (heldBytes (
 holding-padded bs = ap portHolding (sym (holding bs))
 
 -- A port put in place of one of the two.
-with-padded : (port : ℕ) (b : Board) (bs : List ℕ) (w : Settings) → Padded b → Padded (withPort port b (portHolding bs) w)
-with-padded zero b bs w k = record { first = holding-padded bs; second = k .second }
-with-padded (suc p) b bs w k = record { first = k .first; second = holding-padded bs }
+with-padded : (port : ℕ) (b : Board) (bs : List ℕ) (w : Settings) (t : Tally) → Padded b → Padded (withPort port b (portHolding bs) w t)
+with-padded zero b bs w t k = record { first = holding-padded bs; second = k .second }
+with-padded (suc p) b bs w t k = record { first = k .first; second = holding-padded bs }
 
 -- A reply at the front of a room is told by its length byte.
 length-told : (kind : ℕ) (p rest : List ℕ) → length p ≤ 255 → lengthOf (messageOf kind p ++ rest) + 6 ≡ length p + 6
@@ -89,9 +90,9 @@ module _ (b : Board) (page : List ℕ) (c : Call) (k : Padded b) (large : replyR
   turn q = heldOn front (handleMessage (b .readonly)) q (c .port) held (record { settings = b .settings; page = page }) (chunkOf (c .input))
 
   -- The state after a turn is that of the board with the fed port anew.
-  state-after : (port : ℕ) (t : Turn (List ℕ) Kept) → settled port (stateOf b page) t ≡ stateOf (withPort port b (portHolding (t .port)) (t .values .settings)) (t .values .page)
-  state-after zero t = rw (holding (t .port))
-  state-after (suc p) t = rw (holding (t .port))
+  state-after : (port : ℕ) (t : Turn (List ℕ) Kept) (y : Tally) → settled port (stateOf b page) t ≡ stateOf (withPort port b (portHolding (t .port)) (t .values .settings) y) (t .values .page)
+  state-after zero t y = rw (holding (t .port))
+  state-after (suc p) t y = rw (holding (t .port))
 
   -- The step of a message that is found, with its answer.
   abbrev foundStep : ℕ → ℕ → Bool → Answering → PortStep
@@ -100,6 +101,7 @@ module _ (b : Board) (page : List ℕ) (c : Call) (k : Padded b) (large : replyR
         number = 0;
         taken = i + n - length held;
         skipped = skippedBy i good;
+        error = a .answer .error;
         saved = a .answer .saved;
         held = leftOf i n good held (chunkOf (c .input));
         settings = a .answer .settings;
@@ -112,10 +114,10 @@ module _ (b : Board) (page : List ℕ) (c : Call) (k : Padded b) (large : replyR
   unfolding heldOn handleOn
   accepted (Starved i) e =
       record {
-        told = record { number = refl; taken = refl; skipped = refl; saved = refl; room = refl };
-        state = state-after (c .port) (turn (Starved i));
-        padded = with-padded (c .port) b (drop i (held ++ chunkOf (c .input))) (b .settings) k;
-        profile = with-profile (c .port) b _ _;
+        told = record { number = refl; taken = refl; skipped = refl; error = refl; saved = refl; room = refl };
+        state = state-after (c .port) (turn (Starved i)) _;
+        padded = with-padded (c .port) b (drop i (held ++ chunkOf (c .input))) (b .settings) _ k;
+        profile = with-profile (c .port) b _ _ _;
         reply = refl;
         accepted = refl;
       }
@@ -126,10 +128,10 @@ module _ (b : Board) (page : List ℕ) (c : Call) (k : Padded b) (large : replyR
       let answer = ap (λ (m : Received). answering (rightsOf (b .readonly) (c .port)) m (b .settings) (c .room) page) same ∙ answer-large (rightsOf (b .readonly) (c .port)) (receivedOf good (take n (drop i visible))) (b .settings) (c .room) page large in
       subst (λ (a : Answering). Same b c (feedOn (foundStep i n good a) (c .port) b) (accept (c .port) (stateOf b page) (turn (Found i n good)))) (sym answer)
       (record {
-        told = record { number = refl; taken = refl; skipped = refl; saved = refl; room = refl };
-        state = state-after (c .port) (turn (Found i n good));
-        padded = with-padded (c .port) b (drop (resume i n good) visible) _ k;
-        profile = with-profile (c .port) b _ _;
+        told = record { number = refl; taken = refl; skipped = refl; error = refl; saved = refl; room = refl };
+        state = state-after (c .port) (turn (Found i n good)) _;
+        padded = with-padded (c .port) b (drop (resume i n good) visible) _ _ k;
+        profile = with-profile (c .port) b _ _ _;
         reply = message-front _ _ _ (omega (arith, message-most pageAccess (rightsOf (b .readonly) (c .port)) (record { settings = b .settings; page = page }) (receivedOf good (take n (drop i visible)))));
         accepted = ap (acceptedWith (turn (Found i n good) .answer .saved)) (ap (λ (q : Sought). carriedAt q (held ++ chunk)) e ∙ ap carried same);
       })
@@ -153,7 +155,7 @@ port-held (suc p) b page = refl
 
 module _ (b : Board) (page : List ℕ) (c : Call) (k : Padded b) where
   refused-same : (n : ℕ) → replyIn n (c .room) ≡ [] → Same b c (refusedFeeding n b (c .room) page) (record { answer = refused n; state = stateOf b page })
-  refused-same n e = record { told = record { number = refl; taken = refl; skipped = refl; saved = refl; room = refl }; state = refl; padded = k; profile = refl; reply = e; accepted = refl }
+  refused-same n e = record { told = record { number = refl; taken = refl; skipped = refl; error = refl; saved = refl; room = refl }; state = refl; padded = k; profile = refl; reply = e; accepted = refl }
 
   on-tests : (a u r d e : Bool) → ltb (length (c .room)) replyRoom ≡ r
       → Same b c (acceptOn (refuse a 16 (refuse u 17 (refuse r 18 (refuse d 19 (refuse e 20 0))))) (c .port) b (c .input) (c .room) page) (stepWith a u r d e b page c)

@@ -29,6 +29,7 @@ answeredStep m a =
       number = 0;
       taken = length m;
       skipped = 0;
+      error = a .answer .error;
       saved = a .answer .saved;
       held = [];
       settings = a .answer .settings;

@@ -106,7 +106,7 @@ examples =
           (record {
             port = 0;
             input = fed (numbered 0x09000005 0x01 ping);
-            out = record { number = 0; taken = 13; skipped = 12; saved = true; reply = messageOf 0x7C (row 0x02 0) };
+            out = record { number = 0; taken = 13; skipped = 12; error = 0; saved = true; reply = messageOf 0x7C (row 0x02 0) };
           })
           ∷ [];
       accepted = 0x09000005 ∷ [];

@@ -1,4 +1,4 @@
--- Document 01, "The scan" and "Numbers of the calls", and requests 06 and 12: a feed and a silence.
+-- Document 01, "The scan" and "Numbers of the calls", and requests 06, 12 and 13: a feed and a silence.
 use Prim.Native.Nat.{ℕ, zero, suc, _+_, _-_}
 use mathlib.Core.Bool.{Bool, true, false, _||_, not}
 use mathlib.Core.List.{List, _++_}
@@ -10,6 +10,8 @@ use Rattle.stream.specs.Seek.{seek, resume, skippedBy}
 use Rattle.stream.specs.Silence.{endOf, upTo}
 use Rattle.history.specs.Calls.{Input, fed, silent, chunkOf}
 use Rattle.history.specs.Program.{soughtBy}
+use Rattle.totals.specs.declared.Tally.{Tally}
+use Rattle.totals.specs.Tally.{countedOf}
 use Rattle.message.specs.Front.{front}
 use Rattle.message.specs.Whole.{refuse}
 use Rattle.page.specs.Sound.{pageNumber}
@@ -21,7 +23,7 @@ use Rattle.command.specs.Effects.{settingsUsable}
 use Rattle.board.specs.declared.board.Board.{Board}
 use Rattle.board.specs.declared.board.Fed.{Fed}
 use Rattle.board.specs.Profile.{rightsOf}
-use Rattle.board.specs.Port.{portRoom, heldBytes, portHolding, portOf, withPort}
+use Rattle.board.specs.Port.{portRoom, heldBytes, portHolding, portOf, tallyAt, withPort}
 
 -- What a call answers, and the reply room and the page afterwards.
 pub record Feeding : Type 0 where
@@ -42,7 +44,7 @@ feedNumber port first second w room page =
 
 -- A refusal takes 0 bytes, skips 0, returns the board given and writes nothing.
 abbrev pub refusedFeeding : ℕ → Board → List ℕ → List ℕ → Feeding
-refusedFeeding n b room page = record { answer = record { number = n; taken = 0; skipped = 0; saved = false; board = b }; room = room; page = page }
+refusedFeeding n b room page = record { answer = record { number = n; taken = 0; skipped = 0; error = 0; saved = false; board = b }; room = room; page = page }
 
 -- ---- an accepted call
 
@@ -56,6 +58,8 @@ pub record PortStep : Type 0 where
   pub number : ℕ
   pub taken : ℕ
   pub skipped : ℕ
+  -- the first error in the reply, 0 where there is none
+  pub error : ℕ
   pub saved : Bool
   pub held : List ℕ
   pub settings : Settings
@@ -77,6 +81,7 @@ stepOn rights (Found k n good) held w chunk room page =
       number = 0;
       taken = k + n - length held;
       skipped = skippedBy k good;
+      error = a .answer .error;
       saved = a .answer .saved;
       held = leftOf k n good held chunk;
       settings = a .answer .settings;
@@ -88,6 +93,7 @@ stepOn rights (Starved k) held w chunk room page =
       number = 1;
       taken = length chunk;
       skipped = k;
+      error = 0;
       saved = false;
       held = drop k (held ++ chunk);
       settings = w;
@@ -103,6 +109,10 @@ stepBy rights held w i room page = stepOn rights (soughtBy front i held) held w 
 abbrev pub stepAt : Rights → Bool → List ℕ → Settings → List ℕ → List ℕ → List ℕ → PortStep
 stepAt rights quiet held w chunk room page = stepOn rights (seek (upTo (endOf quiet) front) (held ++ chunk)) held w chunk room page
 
+-- The totals of its port after it (`CountedHistory` and demand 3 say what they count).
+abbrev pub tallyAfter : PortStep → ℕ → Board → Tally
+tallyAfter s port b = countedOf (tallyAt port b) (s .number) (s .taken) (s .skipped) (s .error) (portOf port b .held) (length (s .held))
+
 -- The board after it.
 abbrev pub feedOn : PortStep → ℕ → Board → Feeding
 feedOn s port b =
@@ -111,8 +121,9 @@ feedOn s port b =
         number = s .number;
         taken = s .taken;
         skipped = s .skipped;
+        error = s .error;
         saved = s .saved;
-        board = withPort port b (portHolding (s .held)) (s .settings);
+        board = withPort port b (portHolding (s .held)) (s .settings) (tallyAfter s port b);
       };
       room = s .room;
       page = s .page;

@@ -19,4 +19,5 @@ pub mod Samples
 pub mod Silences
 pub mod Start
 pub mod Theorems
+pub mod Totals
 pub mod Unprofiled

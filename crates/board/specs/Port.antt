@@ -3,6 +3,7 @@ use Prim.Native.Nat.{ℕ, zero, suc, _-_}
 use mathlib.Core.List.{List, _++_}
 use lib.ListN.{length, take, replicate}
 use Rattle.message.specs.Front.{mostUndecided}
+use Rattle.totals.specs.declared.Tally.{Tally}
 use Rattle.command.specs.declared.settings.Settings.{Settings}
 use Rattle.board.specs.declared.port.Port.{Port}
 use Rattle.board.specs.declared.board.Board.{Board}
@@ -32,7 +33,12 @@ abbrev pub portOf : ℕ → Board → Port
 portOf zero b = b .first
 portOf (suc p) b = b .second
 
--- The board with one port and the settings anew; the other port's record and the profile are as they came.
-abbrev pub withPort : ℕ → Board → Port → Settings → Board
-withPort zero b port w = record { first = port; second = b .second; settings = w; readonly = b .readonly }
-withPort (suc p) b port w = record { first = b .first; second = port; settings = w; readonly = b .readonly }
+-- The totals of a port.
+abbrev pub tallyAt : ℕ → Board → Tally
+tallyAt zero b = b .tally0
+tallyAt (suc p) b = b .tally1
+
+-- The board with one port, its totals and the settings anew; the other port's record, its totals and the profile are as they came.
+abbrev pub withPort : ℕ → Board → Port → Settings → Tally → Board
+withPort zero b port w t = record { first = port; second = b .second; settings = w; readonly = b .readonly; tally0 = t; tally1 = b .tally1 }
+withPort (suc p) b port w t = record { first = b .first; second = port; settings = w; readonly = b .readonly; tally0 = b .tally0; tally1 = t }

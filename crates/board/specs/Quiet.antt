@@ -8,6 +8,7 @@ use Rattle.history.specs.Calls.{fed, silent}
 use Rattle.history.specs.Restarts.{Act, call, restart, drainedHistory}
 use Rattle.message.specs.Message.{messageOf}
 use Rattle.page.specs.Page.{filled, blankPage}
+use Rattle.command.specs.Outcome.{errorIn}
 use Rattle.board.specs.Profile.{Profile, full}
 use Rattle.board.specs.Samples.{ends, refused}
 use Rattle.board.specs.Histories.{actsOn}
@@ -26,7 +27,7 @@ waits port m = call (record { port = port; input = fed m; out = ends (length m) 
 
 abbrev finds : ℕ → ℕ → Bool → List ℕ → Act Profile Sent
 finds port skipped saved reply =
-    call (record { port = port; input = silent; out = record { number = 0; taken = 0; skipped = skipped; saved = saved; reply = reply } })
+    call (record { port = port; input = silent; out = record { number = 0; taken = 0; skipped = skipped; error = errorIn reply; saved = saved; reply = reply } })
 
 abbrev drains : ℕ → ℕ → Act Profile Sent
 drains port skipped = call (record { port = port; input = silent; out = ends 0 skipped })

@@ -87,7 +87,7 @@ numberedPage = filled (0x02 ∷ 0x08 ∷ 0x07 ∷ 0x01 ∷ 0x70 ∷ 0x08 ∷ 0x0
 abbrev seenThere : List Seen
 seenThere =
     record {
-      out = record { number = 0; taken = 19; skipped = 1; saved = true; reply = messageOf 0x7C (row 0x08 0 ++ row 0x08 0) };
+      out = record { number = 0; taken = 19; skipped = 1; error = 0; saved = true; reply = messageOf 0x7C (row 0x08 0 ++ row 0x08 0) };
       held = [];
       settings = working 0x02 0x05;
       page = numberedPage;

@@ -8,6 +8,7 @@ use lib.ListN.{length, replicate}
 use Rattle.history.specs.Calls.{fed}
 use Rattle.message.specs.Message.{messageOf}
 use Rattle.page.specs.Page.{noValues, blankPage}
+use Rattle.command.specs.Outcome.{errorIn}
 use Rattle.board.specs.Profile.{Profile}
 use Rattle.board.specs.Port.{heldBytes}
 use Rattle.board.specs.Feed.{Feeding}
@@ -23,16 +24,16 @@ pub record Line : Type 0 where
 -- ---- the table
 
 abbrev pub done : ℕ → ℕ → List ℕ → Out
-done taken skipped reply = record { number = 0; taken = taken; skipped = skipped; saved = false; reply = reply }
+done taken skipped reply = record { number = 0; taken = taken; skipped = skipped; error = errorIn reply; saved = false; reply = reply }
 
 abbrev pub saves : ℕ → List ℕ → Out
-saves taken reply = record { number = 0; taken = taken; skipped = 0; saved = true; reply = reply }
+saves taken reply = record { number = 0; taken = taken; skipped = 0; error = errorIn reply; saved = true; reply = reply }
 
 abbrev pub ends : ℕ → ℕ → Out
-ends taken skipped = record { number = 1; taken = taken; skipped = skipped; saved = false; reply = [] }
+ends taken skipped = record { number = 1; taken = taken; skipped = skipped; error = 0; saved = false; reply = [] }
 
 abbrev pub refused : ℕ → Out
-refused number = record { number = number; taken = 0; skipped = 0; saved = false; reply = [] }
+refused number = record { number = number; taken = 0; skipped = 0; error = 0; saved = false; reply = [] }
 
 -- A line of one feed that takes its chunk whole and leaves nothing held and the page blank.
 abbrev line : List ℕ → List ℕ → Line

@@ -1,4 +1,4 @@
--- Document 01, "The start-up page" and "Numbers of the calls", and request 12: starting.
+-- Document 01, "The start-up page" and "Numbers of the calls", and requests 12 and 13: starting.
 use Prim.Native.Nat.{ℕ, zero, suc}
 use mathlib.Core.Bool.{Bool, true, false, _&&_}
 use mathlib.Core.List.{List}
@@ -7,6 +7,7 @@ use lib.ListN.{length}
 use Rattle.page.specs.declared.setting.Setting.the-variants.{Baud, Accelerometer, Gyroscope}
 use Rattle.page.specs.Settings.{factoryValue}
 use Rattle.page.specs.Sound.{pageNumber}
+use Rattle.totals.specs.Tally.{zeroTally}
 use Rattle.command.specs.declared.settings.Settings.{Settings}
 use Rattle.command.specs.Answer.{settingsFrom}
 use Rattle.board.specs.declared.board.Board.{Board}
@@ -19,9 +20,9 @@ use Rattle.board.specs.Port.{portRoom, freshPort}
 abbrev pub factorySettings : Settings
 factorySettings = record { baud = factoryValue Baud; accelerometer = factoryValue Accelerometer; gyroscope = factoryValue Gyroscope }
 
--- Two fresh ports, the working values, and the profile.
+-- Two fresh ports, the working values, the profile, and totals that are zero.
 abbrev pub freshBoard : Profile → Settings → Board
-freshBoard profile w = record { first = freshPort; second = freshPort; settings = w; readonly = profile }
+freshBoard profile w = record { first = freshPort; second = freshPort; settings = w; readonly = profile; tally0 = zeroTally; tally1 = zeroTally }
 
 -- Starting tests 19, 20. A refusal returns the factory settings and two fresh ports. "A refused start keeps the profile asked for."
 abbrev pub startOn : ℕ → Profile → List ℕ → Started
@@ -39,7 +40,7 @@ pub record StartingInPlace : Type 0 where
   pub first : List ℕ
   pub second : List ℕ
 
--- The board of a start, in its parts: both ports hold nothing.
+-- The board of a start, in its parts: both ports hold nothing, and their totals are zero.
 abbrev pub startInPlace : Started → StartingInPlace
 startInPlace s =
     record {

@@ -1,6 +1,7 @@
 // The board, and what starting and feeding answer.
 use crate::port::Port;
 use command::Settings;
+use totals::Tally;
 
 #[repr(C)]
 pub struct Board {
@@ -12,6 +13,9 @@ pub struct Board {
     pub settings: Settings,
     // the profile that it was started in: whether port 1 is read-only
     pub readonly: bool,
+    // the totals of port 0 and of port 1 since the start
+    pub tally0: Tally,
+    pub tally1: Tally,
 }
 
 impl Board {
@@ -36,6 +40,8 @@ pub struct Fed {
     // bytes taken from the chunk, and bytes that the scan skipped
     pub taken: usize,
     pub skipped: usize,
+    // the first error in the reply, 0 where there is none
+    pub error: u8,
     // the mark of a save: one was accepted, or a fresh number
     pub saved: bool,
     pub board: Board,

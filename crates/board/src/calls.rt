@@ -2,7 +2,7 @@
 // gone quiet.
 ghost use mathlib.Core.Path.{_≡_};
 ghost use lib.ListN.{length};
-ghost use Prim.Native.Nat.{_≤_};
+ghost use Prim.Native.Nat.{_+_, _≤_, _<_};
 ghost use Rattle.history.specs.Calls.{chunkOf};
 ghost use Rattle.board.specs.Profile.{rightsOf};
 ghost use Rattle.board.specs.Port.{heldBytes};
@@ -16,17 +16,20 @@ use crate::feeding::place_number;
 use crate::feeding::step;
 use crate::feeding::step_port;
 use command::Settings;
+use totals::add_call;
 
 // The bytes that a call brings: none where the line has gone quiet.
 fn brought(quiet: bool, chunk: &[u8]) -> usize
     ensures { λ r. ⌜ r ≡ length (chunkOf (inputOf quiet (now (chunk .entry)))) ⌝ }
+    ensures { λ r. ⌜ r + 260 < 18446744073709551616 ⌝ }
 {
     if quiet { 0 } else { chunk.len() }
 }
 
 // A feed, or with `quiet` a silence, for a caller that keeps the board: `bytes` is the array of the named port, which is written in
-// place, `first` and `second` are the held counts of both ports, `readonly` is the profile that the board was started in, and the
-// answer has the named port's held count and the settings afterwards. A silence does not look at the chunk.
+// place, `first` and `second` are the held counts of both ports, `readonly` is the profile that the board was started in, `totals` are
+// those of the named port, which are counted in place, and the answer has the named port's held count and the settings afterwards. A
+// silence does not look at the chunk.
 pub fn call_in_place(
     port: u8,
     bytes: &mut [u8],
@@ -35,26 +38,28 @@ pub fn call_in_place(
     w: Settings,
     readonly: bool,
     quiet: bool,
+    totals: &mut [u64],
     chunk: &[u8],
     room: &mut [u8],
     page: &mut [u8],
 ) -> Stepped
-    ensures { λ r. ⌜ record { step = r; bytes = now (bytes .exit); room = now (room .exit); page = now (page .exit) } ≡ placeBy port (now (bytes .entry)) first second w readonly (inputOf quiet (now (chunk .entry))) (now (room .entry)) (now (page .entry)) ⌝ }
+    ensures { λ r. ⌜ record { step = r; bytes = now (bytes .exit); totals = now (totals .exit); room = now (room .exit); page = now (page .exit) } ≡ placeBy port (now (bytes .entry)) first second w readonly (now (totals .entry)) (inputOf quiet (now (chunk .entry))) (now (room .entry)) (now (page .entry)) ⌝ }
 {
-    let number = place_number(port, bytes, first, second, w, room, page);
+    let number = place_number(port, bytes, first, second, w, totals, room, page);
     let held = held_of(port, first, second);
     if number != 0 {
         return Stepped {
             number,
             taken: 0,
             skipped: 0,
+            error: 0,
             saved: false,
             held,
             settings: w,
         };
     }
     let n = brought(quiet, chunk);
-    step(
+    let s = step(
         port,
         readonly,
         bytes,
@@ -64,7 +69,9 @@ pub fn call_in_place(
         w,
         room,
         page,
-    )
+    );
+    add_call(totals, s.number, s.taken, s.skipped, s.error, held, s.held);
+    s
 }
 
 // A feed for such a caller.
@@ -75,11 +82,12 @@ pub fn feed_in_place(
     second: usize,
     w: Settings,
     readonly: bool,
+    totals: &mut [u64],
     chunk: &[u8],
     room: &mut [u8],
     page: &mut [u8],
 ) -> Stepped
-    ensures { λ r. ⌜ record { step = r; bytes = now (bytes .exit); room = now (room .exit); page = now (page .exit) } ≡ placeOf port (now (bytes .entry)) first second w readonly (now (chunk .entry)) (now (room .entry)) (now (page .entry)) ⌝ }
+    ensures { λ r. ⌜ record { step = r; bytes = now (bytes .exit); totals = now (totals .exit); room = now (room .exit); page = now (page .exit) } ≡ placeOf port (now (bytes .entry)) first second w readonly (now (totals .entry)) (now (chunk .entry)) (now (room .entry)) (now (page .entry)) ⌝ }
 {
     call_in_place(
         port,
@@ -89,6 +97,7 @@ pub fn feed_in_place(
         w,
         readonly,
         false,
+        totals,
         chunk,
         room,
         page,
@@ -103,10 +112,11 @@ pub fn silence_in_place(
     second: usize,
     w: Settings,
     readonly: bool,
+    totals: &mut [u64],
     room: &mut [u8],
     page: &mut [u8],
 ) -> Stepped
-    ensures { λ r. ⌜ record { step = r; bytes = now (bytes .exit); room = now (room .exit); page = now (page .exit) } ≡ silencePlaceOf port (now (bytes .entry)) first second w readonly (now (room .entry)) (now (page .entry)) ⌝ }
+    ensures { λ r. ⌜ record { step = r; bytes = now (bytes .exit); totals = now (totals .exit); room = now (room .exit); page = now (page .exit) } ≡ silencePlaceOf port (now (bytes .entry)) first second w readonly (now (totals .entry)) (now (room .entry)) (now (page .entry)) ⌝ }
 {
     let none = [0u8; 1];
     call_in_place(
@@ -117,6 +127,7 @@ pub fn silence_in_place(
         w,
         readonly,
         true,
+        totals,
         &none,
         room,
         page,
@@ -159,10 +170,14 @@ fn call_first(
     board.settings.baud = s.settings.baud;
     board.settings.accelerometer = s.settings.accelerometer;
     board.settings.gyroscope = s.settings.gyroscope;
+    let tally = board.tally0;
+    let counted = tally.counted(s.number, s.taken, s.skipped, s.error, held, s.held);
+    board.tally0 = counted;
     Fed {
         number: s.number,
         taken: s.taken,
         skipped: s.skipped,
+        error: s.error,
         saved: s.saved,
         board,
     }
@@ -198,10 +213,14 @@ fn call_second(
     board.settings.baud = s.settings.baud;
     board.settings.accelerometer = s.settings.accelerometer;
     board.settings.gyroscope = s.settings.gyroscope;
+    let tally = board.tally1;
+    let counted = tally.counted(s.number, s.taken, s.skipped, s.error, held, s.held);
+    board.tally1 = counted;
     Fed {
         number: s.number,
         taken: s.taken,
         skipped: s.skipped,
+        error: s.error,
         saved: s.saved,
         board,
     }
@@ -224,6 +243,7 @@ fn call(port: u8, board: Board, chunk: &[u8], quiet: bool, room: &mut [u8], page
             number,
             taken: 0,
             skipped: 0,
+            error: 0,
             saved: false,
             board,
         };

@@ -22,6 +22,7 @@ use command::answer_over;
 use command::settings_usable;
 use message::seek_held;
 use stream::Sought;
+use totals::Tally;
 
 // The number of the first test that refuses, 0 where none does.
 pub(crate) fn feed_number(
@@ -129,6 +130,8 @@ pub struct Stepped {
     pub settings: Settings,
     // document 01's number
     pub number: u8,
+    // the first error in the reply, 0 where there is none
+    pub error: u8,
     pub saved: bool,
 }
 
@@ -136,7 +139,7 @@ pub struct Stepped {
 fn step_starved(bytes: &mut [u8], held: usize, chunk: &[u8], k: usize, w: Settings) -> Stepped
     requires { ⌜ (held ≤ 260) × (length (now bytes) ≡ 260) ⌝ }
     requires { ⌜ (k ≤ held + length (now chunk)) × (held + length (now chunk) - k ≤ 260) ⌝ }
-    ensures { λ r. ⌜ r ≡ record { number = 1; taken = length (now (chunk .entry)); skipped = k; saved = false; held = length (drop k (take held (now (bytes .entry)) ++ now (chunk .entry))); settings = w } ⌝ }
+    ensures { λ r. ⌜ r ≡ record { number = 1; taken = length (now (chunk .entry)); skipped = k; error = 0; saved = false; held = length (drop k (take held (now (bytes .entry)) ++ now (chunk .entry))); settings = w } ⌝ }
     ensures { λ r. ⌜ now (bytes .exit) ≡ padded (drop k (take held (now (bytes .entry)) ++ now (chunk .entry))) ⌝ }
 {
     let to = held + chunk.len();
@@ -145,6 +148,7 @@ fn step_starved(bytes: &mut [u8], held: usize, chunk: &[u8], k: usize, w: Settin
         number: 1,
         taken: chunk.len(),
         skipped: k,
+        error: 0,
         saved: false,
         held: to - k,
         settings: w,
@@ -155,13 +159,14 @@ fn step_starved(bytes: &mut [u8], held: usize, chunk: &[u8], k: usize, w: Settin
 // is computed here, behind its answer, so that it need not be kept over that.
 fn reported(held: usize, k: usize, n: usize, good: bool, a: Answer, left: usize) -> Stepped
     requires { ⌜ (k + n < 18446744073709551616) × (1 ≤ n) ⌝ }
-    ensures { λ r. ⌜ r ≡ record { number = 0; taken = k + n - held; skipped = skippedBy k good; saved = a .saved; held = left; settings = a .settings } ⌝ }
+    ensures { λ r. ⌜ r ≡ record { number = 0; taken = k + n - held; skipped = skippedBy k good; error = a .error; saved = a .saved; held = left; settings = a .settings } ⌝ }
 {
     let settings = a.settings;
     Stepped {
         number: 0,
         taken: excess(k + n, held),
         skipped: skipped_with(k, good),
+        error: a.error,
         saved: a.saved,
         held: left,
         settings,
@@ -249,15 +254,19 @@ pub(crate) fn place_number(
     first: usize,
     second: usize,
     w: Settings,
+    totals: &[u64],
     room: &[u8],
     page: &[u8],
 ) -> u8
-    ensures { λ r. ⌜ r ≡ placeNumber port (now (bytes .entry)) first second w (now (room .entry)) (now (page .entry)) ⌝ }
+    ensures { λ r. ⌜ r ≡ placeNumber port (now (bytes .entry)) first second w (now (totals .entry)) (now (room .entry)) (now (page .entry)) ⌝ }
 {
     if 1 < port {
         return 16;
     }
     if bytes.len() != Port::ROOM {
+        return 17;
+    }
+    if totals.len() != Tally::ROW {
         return 17;
     }
     feed_number(port, first, second, w, room, page)

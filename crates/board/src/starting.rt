@@ -9,6 +9,7 @@ use crate::port::Port;
 use command::Settings;
 use command::settings_from;
 use page::Setting;
+use totals::Tally;
 
 fn factory_settings() -> Settings
     ensures { λ r. ⌜ r ≡ factorySettings ⌝ }
@@ -47,11 +48,13 @@ pub fn start(readonly: bool, page: &[u8]) -> Started
             second: Port::new(),
             settings,
             readonly,
+            tally0: Tally::new(),
+            tally1: Tally::new(),
         },
     }
 }
 
-// What a start in place answers. Both ports hold nothing; their bytes stay in their arrays.
+// What a start in place answers. Both ports hold nothing; their bytes stay in their arrays. Their totals are zero.
 #[repr(C)]
 pub struct StartedInPlace {
     pub settings: Settings,

@@ -24,7 +24,7 @@ times-more e x (y ∷ es) = omega (arith, times-more e x es)
 times-same : (e : ℕ) (es : List ℕ) → times e (es ++ (e ∷ [])) ≡ times e es + 1
 times-same e es = rw (times-more e e es, eq-eqb e e refl)
 
-times-other : (e x : ℕ) (es : List ℕ) → (x ≡ e → ⊥) → times e (es ++ (x ∷ [])) ≡ times e es
+pub times-other : (e x : ℕ) (es : List ℕ) → (x ≡ e → ⊥) → times e (es ++ (x ∷ [])) ≡ times e es
 times-other e x es h = rw (times-more e x es, ne-eqb x e h) (omega arith)
 
 -- An error below those that are counted changes none of them.

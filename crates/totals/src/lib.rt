@@ -1,7 +1,7 @@
 // The totals of a port since its start: in the board, and in a driver's tally record.
 ghost use mathlib.Core.Path.{_≡_};
 ghost use lib.ListN.{length};
-ghost use Prim.Native.Nat.{_-_, _≤_, _<_};
+ghost use Prim.Native.Nat.{_+_, _-_, _≤_, _<_};
 ghost use Rattle.totals.specs.Tally.{plusUpTo, zeroTally, countedWith, goodBytes, countedOf, rowOf, tallyIn, plusAt};
 
 // Each total stops at its largest figure.
@@ -45,6 +45,9 @@ fn plus_good(total: u64, taken: usize, skipped: usize, before: usize, after: usi
 }
 
 impl Tally {
+    // the totals as a row: those of bytes, then those of messages by error
+    pub const ROW: usize = 11;
+
     // Zero at the start.
     pub fn new() -> Self
         ensures { λ r. ⌜ r ≡ zeroTally ⌝ }
@@ -97,22 +100,23 @@ fn add_to(totals: &mut [u64], at: usize, n: usize)
     totals[at] = plus_up_to(total, n);
 }
 
-// Adds an accepted call to totals that are lent as a row: those of bytes, then those of messages by error. For the board itself, which
-// knows how many bytes of a good message there were.
+// Adds a call that was accepted to totals that are lent as a row: those of bytes, then those of messages by error. It is for the board
+// itself, whose calls add up: what is behind a call was held before it or taken.
 pub fn add_call(
     totals: &mut [u64],
     number: u8,
     taken: usize,
     skipped: usize,
-    good: usize,
     error: u8,
+    before: usize,
+    after: usize,
 )
-    requires { ⌜ (length (now totals) ≡ 11) × (number ≤ 1) ⌝ }
-    ensures { λ _. ⌜ now (totals .exit) ≡ rowOf (countedWith (tallyIn (now (totals .entry))) number taken skipped good error) ⌝ }
+    requires { ⌜ (length (now totals) ≡ 11) × (number ≤ 1) × (skipped + after ≤ taken + before) × (taken + before < 18446744073709551616) ⌝ }
+    ensures { λ _. ⌜ now (totals .exit) ≡ rowOf (countedOf (tallyIn (now (totals .entry))) number taken skipped error before after) ⌝ }
 {
     add_to(totals, 0, taken);
     add_to(totals, 1, skipped);
-    add_to(totals, 2, good);
+    add_to(totals, 2, taken + before - skipped - after);
     if number == 0 {
         if error < 8 {
             add_to(totals, 3 + error as usize, 1);

@@ -10,11 +10,20 @@ add-to-requires c κs = search needs
 add-to-requires-2 : tie.Need-add-to-requires-2
 add-to-requires-2 c κs = search needs
 
+add-add-to : tie.Need-add-add-to
+add-add-to c = search needs
+
+sub-add-to : tie.Need-sub-add-to
+sub-add-to c = search needs
+
+sub-add-to-2 : tie.Need-sub-add-to-2
+sub-add-to-2 c = search needs
+
 add-to-requires-3 : tie.Need-add-to-requires-3
 add-to-requires-3 c κs = search needs
 
-add-add-to : tie.Need-add-add-to
-add-add-to c = search needs
+add-add-to-2 : tie.Need-add-add-to-2
+add-add-to-2 c = search needs
 
 add-to-requires-4 : tie.Need-add-to-requires-4
 add-to-requires-4 c κs = search (row-place, needs)
@@ -43,8 +52,11 @@ add-call-spec =
     (tie.spec
     add-to-requires
     add-to-requires-2
-    add-to-requires-3
     add-add-to
+    sub-add-to
+    sub-add-to-2
+    add-to-requires-3
+    add-add-to-2
     add-to-requires-4
     same-length
     returns

@@ -16,8 +16,14 @@ new-requires c κs = search needs
 new-requires-2 : tie.Need-new-requires-2
 new-requires-2 c κs = search needs
 
+new-requires-3 : tie.Need-new-requires-3
+new-requires-3 c κs = search needs
+
+new-requires-4 : tie.Need-new-requires-4
+new-requires-4 c κs = search needs
+
 returns : tie.Need-returns
 returns c = search (start-fresh, needs)
 
 pub start-spec : {M : Type 1} → statement M
-start-spec = tie.close (tie.spec check-page-requires start-settings-requires new-requires new-requires-2 returns)
+start-spec = tie.close (tie.spec check-page-requires start-settings-requires new-requires new-requires-2 new-requires-3 new-requires-4 returns)
