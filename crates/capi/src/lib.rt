@@ -2,12 +2,14 @@
 // fixed layout by value. No call trusts an argument: what is not in order is answered by a number of document 01. What a
 // caller must see to stands at the top of include/ketphiroj.h: pointers that hold, and slices that do not overlap where one of
 // them is written.
+mod counting;
 mod feeding;
 mod flat;
 mod messages;
 mod pages;
 mod samples;
 
+pub use counting::ketphiroj_count;
 pub use feeding::ketphiroj_call_in_place;
 pub use feeding::ketphiroj_start;
 pub use feeding::ketphiroj_start_in_place;
