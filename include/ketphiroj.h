@@ -2,10 +2,12 @@
  * Ketphiroj's calls for C. Each call of the library is proved to answer exactly what its definition says, for every argument:
  * crates/capi/src has the contracts, crates/NAME/specs the definitions. Not proved is what is C itself: the declarations below,
  * and the functions that stand here whole: ketphiroj_feed_in_place and ketphiroj_silence_in_place, which name the two uses of one proved
- * call, and ketphiroj_start_board, ketphiroj_feed_board and ketphiroj_silence_board, which put what a proved call answers into the board.
+ * call, and ketphiroj_start_board, ketphiroj_feed_board and ketphiroj_silence_board, which lend parts of the board to a proved call and
+ * put what it answers into the board.
  *
  * What a caller must see to, and nothing else:
- *   - a pointer with a length points to that many bytes, and is never NULL, not even with length 0;
+ *   - a pointer with a length points to that many bytes, and `totals` to that many uint64_t; the record of ketphiroj_count is a whole
+ *     ketphiroj_tally; and none is ever NULL, not even with length 0;
  *   - a buffer that a call writes overlaps no other buffer of the same call;
  *   - a bool is true or false.
  * The archive is for x86-64: size_t is 64 bits.
@@ -29,6 +31,7 @@ enum {
     KETPHIROJ_LONGEST_MESSAGE = 261,
     KETPHIROJ_REPLY_ROOM = 166,      /* the longest reply, to a command of 16 fields, and the least room for a feed or a silence */
     KETPHIROJ_PAGE_SIZE = 64,
+    KETPHIROJ_TOTALS = 11,           /* the totals of a port as a row of numbers: the members of ketphiroj_tally in their order */
     KETPHIROJ_NUMBERED = 0x7C,       /* the type of a numbered command, and of the reply to it */
     KETPHIROJ_DATA_SIZE = 34         /* a data message of an acceleration and a rate */
 };
@@ -88,11 +91,38 @@ typedef struct {
     uint8_t gyroscope;     /* range, 1 to 5 */
 } ketphiroj_settings;
 
+/*
+ * The totals of one port since its board was started, which say how bad its line is. The board has them for each port: a feed or a
+ * silence with number 0 or 1 adds what it did to those of its port, and one that is refused changes none. A start gives zeros, also where
+ * it is refused. A driver may keep such a record of its own beside the board, see ketphiroj_count.
+ * Each total stops at its largest figure, 18446744073709551615, and from then on says 'at least'; the others go on. From a start on, and
+ * until `taken` has stopped, which is the largest of the three, taken = good + skipped + what the port holds, after each call. That is
+ * proved, of every list of calls, refused ones included.
+ * Any totals are sound: no call refuses a board for them, or does anything else because of them.
+ * The members are numbers of one kind, with nothing between them: KETPHIROJ_TOTALS of them in a row, as a call in place is lent them.
+ */
+typedef struct {
+    uint64_t taken;   /* bytes taken from the chunks */
+    uint64_t skipped; /* bytes that the scan skipped: those of no message, and the first of each damaged one */
+    uint64_t good;    /* bytes of good messages: of those with right sums, whatever they were answered */
+    /*
+     * Messages by the first error in the reply, 0 to 7: of a command with several fields the first row's, so that 0 says nothing of the
+     * fields behind it. What each number is for, to the letter, is said at `error` of ketphiroj_reply. To a service person it says
+     * 0: understood, and done; 1: damaged on the line, or noise that looked as a message; 2: a kind of message that this board does
+     * not know; 3: a setting that it does not know, or none named; 4: not well made, by a fault of the sender; 5: sent again, or
+     * without the number that is needed; 6: for an older board, which has more ranges; 7: not allowed on this port.
+     * A bad line shows in `skipped` and in 1. The others came whole over the line: they tell of the sender.
+     */
+    uint64_t errors[8];
+} ketphiroj_tally;
+
 typedef struct {
     ketphiroj_port first; /* port 0 */
     ketphiroj_port second; /* port 1 */
     ketphiroj_settings settings; /* the working values */
     bool readonly; /* the profile that it was started in; the calls only read it */
+    ketphiroj_tally tally0; /* the totals of port 0 */
+    ketphiroj_tally tally1; /* the totals of port 1 */
 } ketphiroj_board;
 
 typedef struct {
@@ -101,10 +131,10 @@ typedef struct {
 } ketphiroj_started;
 
 /*
- * A board with two empty ports, in the profile KETPHIROJ_FULL or KETPHIROJ_READONLY, on the settings that the page keeps, or on the
- * factory's for those that it does not. A gyroscope's range 6 or 7, which a page of an older board may keep, is not used: the board
- * starts on the factory's, and the page stays as it is. Numbers: 0; 19, 20: the board is then on the factory's settings, in the
- * profile asked for.
+ * A board with two empty ports and totals of zero, in the profile KETPHIROJ_FULL or KETPHIROJ_READONLY, on the settings that the page
+ * keeps, or on the factory's for those that it does not. A gyroscope's range 6 or 7, which a page of an older board may keep, is not
+ * used: the board starts on the factory's, and the page stays as it is. Numbers: 0; 19, 20: the board is then on the factory's settings,
+ * in the profile asked for, and all else is as after any start.
  */
 ketphiroj_started ketphiroj_start(bool readonly, const uint8_t *page, size_t page_length);
 
@@ -117,9 +147,9 @@ typedef struct {
 
 /*
  * Starts a board that the caller keeps, whatever stands in it, where ketphiroj_start answers a whole board and takes the stack for
- * it. `first` and `second` are the 260 bytes of ports 0 and 1, which are cleared. The caller sets both held counts to 0 and puts
- * the answer's settings and profile into its board, as ketphiroj_start_board does: the board is then the one that ketphiroj_start
- * answers.
+ * it. `first` and `second` are the 260 bytes of ports 0 and 1, which are cleared. The caller sets both held counts to 0 and the totals
+ * of both ports to zero, and puts the answer's settings and profile into its board, as ketphiroj_start_board does: the board is then the
+ * one that ketphiroj_start answers. It does so with 19 and 20, too.
  * The page is only read.
  * 0: the board starts on the settings that the page keeps, or on the factory's for those that it does not, and for a
  *    gyroscope's range 6 or 7.
@@ -137,6 +167,7 @@ typedef struct {
     size_t held;    /* what the named port holds now */
     ketphiroj_settings settings; /* the working values now */
     uint8_t number;
+    uint8_t error;  /* the first error in the reply, 0 to 7: of several rows the first one's; 0 where there is no reply */
     bool saved;     /* whether a save was accepted, of any field, or a fresh number was taken: the page was written */
 } ketphiroj_stepped;
 
@@ -146,12 +177,14 @@ typedef struct {
  */
 ketphiroj_stepped ketphiroj_call_in_place(
     uint8_t port, uint8_t *bytes, size_t bytes_length, size_t first, size_t second, ketphiroj_settings settings, bool readonly,
-    bool quiet, const uint8_t *chunk, size_t chunk_length, uint8_t *room, size_t room_length, uint8_t *page, size_t page_length);
+    bool quiet, uint64_t *totals, size_t totals_length, const uint8_t *chunk, size_t chunk_length, uint8_t *room, size_t room_length,
+    uint8_t *page, size_t page_length);
 
 /*
  * Feeds a chunk to port 0 or 1. `bytes` are the 260 bytes of the named port, which are written in place, `first` and `second`
- * the held counts of ports 0 and 1, `readonly` the profile that the board was started in. The caller puts the answer's held count and
- * settings back into its board, as ketphiroj_feed_board does.
+ * the held counts of ports 0 and 1, `readonly` the profile that the board was started in. `totals` are the 11 totals of the named port,
+ * to which the call is added in place: KETPHIROJ_TOTALS numbers in the order of ketphiroj_tally. The caller puts the answer's held count
+ * and settings back into its board, as ketphiroj_feed_board does.
  * Bytes that open no message are skipped without a reply; so are stray A5 in front of a message, any number of them.
  * A command has 1 to 16 fields, which are handled in their order as separate commands would be; an error of one does not stop
  * those after it. Where the fields do not fill the payload exactly, or are more than 16, nothing is done, and the error is 4.
@@ -163,8 +196,8 @@ ketphiroj_stepped ketphiroj_call_in_place(
  *    are not reached, see ketphiroj_read_reply. Where `saved`, the page was written anew and is to be stored before the reply is
  *    sent, else it is as it was.
  * 1: the whole chunk was taken, and there is nothing more to report. Nothing was written to the room or the page.
- * 16, 17, 18, 19, 20: refused; an array that is not 260 bytes gives 17. Nothing was taken or written, and the held count and the
- *    settings are those given.
+ * 16, 17, 18, 19, 20: refused; an array that is not 260 bytes gives 17, and so do totals that are not 11. Nothing was taken, counted or
+ *    written, and the held count and the settings are those given.
  *
  * Numbered commands. A message of type 0x7C is a command with a number in front: its payload is the number (4 bytes, big-endian),
  * the type 0x01 or 0x02, and the fields. Port 0 takes it, and in the full profile port 1. The number is fresh where it is larger than
@@ -186,11 +219,12 @@ ketphiroj_stepped ketphiroj_call_in_place(
  */
 static inline ketphiroj_stepped ketphiroj_feed_in_place(
     uint8_t port, uint8_t *bytes, size_t bytes_length, size_t first, size_t second, ketphiroj_settings settings, bool readonly,
-    const uint8_t *chunk, size_t chunk_length, uint8_t *room, size_t room_length, uint8_t *page, size_t page_length)
+    uint64_t *totals, size_t totals_length, const uint8_t *chunk, size_t chunk_length, uint8_t *room, size_t room_length,
+    uint8_t *page, size_t page_length)
 {
     return ketphiroj_call_in_place(
-        port, bytes, bytes_length, first, second, settings, readonly, false, chunk, chunk_length, room, room_length, page,
-        page_length);
+        port, bytes, bytes_length, first, second, settings, readonly, false, totals, totals_length, chunk, chunk_length, room,
+        room_length, page, page_length);
 }
 
 /*
@@ -203,49 +237,56 @@ static inline ketphiroj_stepped ketphiroj_feed_in_place(
  * 0: a message was answered, as by a feed: its reply is at the front of `room`, and where `saved`, the page is to be stored before the
  *    reply is sent. More may be held: call again.
  * 1: nothing is held, and there is nothing more to report. Nothing was written to the room or the page.
- * 16, 17, 18, 19, 20: refused, as a feed with these arguments. Nothing was written, and the held count and the settings are those given.
+ * 16, 17, 18, 19, 20: refused, as a feed with these arguments. Nothing was counted or written, and the held count and the settings are
+ *    those given.
  *
  * A driver calls until the answer is 1 before it feeds that port again. A feed before that is taken, over the bytes that are left: a
  * message may then begin before the silence and end after it. No number of a numbered command is accepted twice either way.
  */
 static inline ketphiroj_stepped ketphiroj_silence_in_place(
     uint8_t port, uint8_t *bytes, size_t bytes_length, size_t first, size_t second, ketphiroj_settings settings, bool readonly,
-    uint8_t *room, size_t room_length, uint8_t *page, size_t page_length)
+    uint64_t *totals, size_t totals_length, uint8_t *room, size_t room_length, uint8_t *page, size_t page_length)
 {
     static const uint8_t no_chunk[1] = {0}; /* never NULL, not even with length 0 */
     return ketphiroj_call_in_place(
-        port, bytes, bytes_length, first, second, settings, readonly, true, no_chunk, 0, room, room_length, page, page_length);
+        port, bytes, bytes_length, first, second, settings, readonly, true, totals, totals_length, no_chunk, 0, room, room_length,
+        page, page_length);
 }
 
 /*
  * Starts a board where it stands, in the profile KETPHIROJ_FULL or KETPHIROJ_READONLY and whatever it holds: afterwards it is the one
- * that ketphiroj_start answers, with the same number. Numbers: 0; 19, 20: the board has then two empty ports, the factory's settings
- * and the profile asked for. The call inside is proved; the four assignments after the call are C, and are not.
+ * that ketphiroj_start answers, with the same number. Numbers: 0; 19, 20: the board has then two empty ports, the factory's settings,
+ * the profile asked for, and totals of zero. The call inside is proved; the six assignments after the call are C, and are not.
  */
 static inline uint8_t ketphiroj_start_board(ketphiroj_board *board, bool readonly, const uint8_t *page, size_t page_length)
 {
+    static const ketphiroj_tally zero = {0, 0, 0, {0, 0, 0, 0, 0, 0, 0, 0}};
     ketphiroj_started_in_place answer = ketphiroj_start_in_place(
         readonly, board->first.bytes, KETPHIROJ_PORT_ROOM, board->second.bytes, KETPHIROJ_PORT_ROOM, page, page_length);
     board->first.held = 0;
     board->second.held = 0;
     board->settings = answer.settings;
     board->readonly = answer.readonly;
+    board->tally0 = zero;
+    board->tally1 = zero;
     return answer.number;
 }
 
 /*
  * Feeds a chunk to port 0 or 1 of a board: numbers and buffers as with ketphiroj_feed_in_place. It writes the named port's bytes,
- * its held count and the settings; the other port and the profile are left alone. A refusal leaves the board as it was. The call
- * inside is proved; the choice of the port and the two assignments after the call are C, and are not.
+ * its held count, its totals and the settings; the other port, the other totals and the profile are left alone. A refusal leaves the
+ * board as it was. The call inside is proved; the choice of the port, the choice of its totals, which are lent as a row, and the two
+ * assignments after the call are C, and are not.
  */
 static inline ketphiroj_stepped ketphiroj_feed_board(
     uint8_t port, ketphiroj_board *board, const uint8_t *chunk, size_t chunk_length, uint8_t *room, size_t room_length,
     uint8_t *page, size_t page_length)
 {
     ketphiroj_port *named = port == 0 ? &board->first : &board->second;
+    uint64_t *totals = (uint64_t *) (port == 0 ? &board->tally0 : &board->tally1);
     ketphiroj_stepped answer = ketphiroj_feed_in_place(
-        port, named->bytes, KETPHIROJ_PORT_ROOM, board->first.held, board->second.held, board->settings, board->readonly, chunk,
-        chunk_length, room, room_length, page, page_length);
+        port, named->bytes, KETPHIROJ_PORT_ROOM, board->first.held, board->second.held, board->settings, board->readonly, totals,
+        KETPHIROJ_TOTALS, chunk, chunk_length, room, room_length, page, page_length);
     named->held = answer.held;
     board->settings = answer.settings;
     return answer;
@@ -259,13 +300,30 @@ static inline ketphiroj_stepped ketphiroj_silence_board(
     uint8_t port, ketphiroj_board *board, uint8_t *room, size_t room_length, uint8_t *page, size_t page_length)
 {
     ketphiroj_port *named = port == 0 ? &board->first : &board->second;
+    uint64_t *totals = (uint64_t *) (port == 0 ? &board->tally0 : &board->tally1);
     ketphiroj_stepped answer = ketphiroj_silence_in_place(
-        port, named->bytes, KETPHIROJ_PORT_ROOM, board->first.held, board->second.held, board->settings, board->readonly, room,
-        room_length, page, page_length);
+        port, named->bytes, KETPHIROJ_PORT_ROOM, board->first.held, board->second.held, board->settings, board->readonly, totals,
+        KETPHIROJ_TOTALS, room, room_length, page, page_length);
     named->held = answer.held;
     board->settings = answer.settings;
     return answer;
 }
+
+/*
+ * Counts a feed or a silence in a record that the driver keeps on its own: the same totals as the board's, without a look into the board.
+ * There is one record for each port. The driver
+ *   - sets it to zero when it starts the board, also where the start is refused;
+ *   - calls this after every feed and every silence of that port, with the number, taken, skipped and error that were answered, with what
+ *     the port held before the call as `before` (0 after a start, then the held of that port's last answer), and with the answer's held
+ *     as `after`. Refused ones may be passed or left out: they change nothing.
+ * A record that is kept so equals the board's totals of that port after each call. That is proved, of every list of calls and starts;
+ * and so does one that is begun later, with the board's totals in place of zero.
+ * Any arguments are taken, and any record. A number above 1 changes nothing. With 0 and 1 the bytes taken and skipped are added, and to
+ * the good ones taken plus before, less skipped, less after: at least 0, as whole numbers that do not wrap. Only number 0 counts a
+ * message, under its error; an error above 7 is counted nowhere. Each total stops at its largest figure.
+ */
+void ketphiroj_count(
+    ketphiroj_tally *tally, uint8_t number, size_t taken, size_t skipped, uint8_t error, size_t before, size_t after);
 
 /* ---- messages */
 

@@ -13,15 +13,20 @@ _Static_assert(offsetof(ketphiroj_port, held) == 264 && sizeof(ketphiroj_port) =
 _Static_assert(offsetof(ketphiroj_settings, accelerometer) == 4, "settings");
 _Static_assert(offsetof(ketphiroj_settings, gyroscope) == 5 && sizeof(ketphiroj_settings) == 8, "settings");
 _Static_assert(offsetof(ketphiroj_board, second) == 272 && offsetof(ketphiroj_board, settings) == 544, "board");
-_Static_assert(offsetof(ketphiroj_board, readonly) == 552 && sizeof(ketphiroj_board) == 560, "board");
-_Static_assert(offsetof(ketphiroj_started, board) == 8 && sizeof(ketphiroj_started) == 568, "started");
+_Static_assert(offsetof(ketphiroj_tally, taken) == 0 && offsetof(ketphiroj_tally, skipped) == 8, "tally");
+_Static_assert(offsetof(ketphiroj_tally, good) == 16 && offsetof(ketphiroj_tally, errors) == 24, "tally");
+_Static_assert(sizeof(ketphiroj_tally) == 88 && sizeof(ketphiroj_tally) == KETPHIROJ_TOTALS * sizeof(uint64_t), "tally");
+_Static_assert(offsetof(ketphiroj_board, readonly) == 552 && offsetof(ketphiroj_board, tally0) == 560, "board");
+_Static_assert(offsetof(ketphiroj_board, tally1) == 648 && sizeof(ketphiroj_board) == 736, "board");
+_Static_assert(offsetof(ketphiroj_started, board) == 8 && sizeof(ketphiroj_started) == 744, "started");
 _Static_assert(offsetof(ketphiroj_started_in_place, settings) == 0, "started in place");
 _Static_assert(offsetof(ketphiroj_started_in_place, number) == 8, "started in place");
 _Static_assert(offsetof(ketphiroj_started_in_place, readonly) == 9, "started in place");
 _Static_assert(sizeof(ketphiroj_started_in_place) == 12, "started in place");
 _Static_assert(offsetof(ketphiroj_stepped, skipped) == 8 && offsetof(ketphiroj_stepped, held) == 16, "stepped");
 _Static_assert(offsetof(ketphiroj_stepped, settings) == 24 && offsetof(ketphiroj_stepped, number) == 32, "stepped");
-_Static_assert(offsetof(ketphiroj_stepped, saved) == 33 && sizeof(ketphiroj_stepped) == 40, "stepped");
+_Static_assert(offsetof(ketphiroj_stepped, error) == 33 && offsetof(ketphiroj_stepped, saved) == 34, "stepped");
+_Static_assert(sizeof(ketphiroj_stepped) == 40, "stepped");
 _Static_assert(offsetof(ketphiroj_written, length) == 8 && sizeof(ketphiroj_written) == 16, "written");
 _Static_assert(offsetof(ketphiroj_reply, kind) == 1 && offsetof(ketphiroj_reply, echo) == 2, "reply");
 _Static_assert(offsetof(ketphiroj_reply, error) == 3 && offsetof(ketphiroj_reply, has_value) == 4, "reply");
@@ -62,12 +67,27 @@ static fed_board feed(uint8_t port, ketphiroj_board board, const uint8_t *chunk,
     return fed;
 }
 
+/* Nothing stands between the fields of a tally. */
+static bool same_tally(const ketphiroj_tally *a, const ketphiroj_tally *b) {
+    return memcmp(a, b, sizeof *a) == 0;
+}
+
+/* Totals of which no two are the same, nor of two tallies with different bases. */
+static ketphiroj_tally totals_from(uint64_t base) {
+    ketphiroj_tally tally = {base + 1, base + 2, base + 3, {0}};
+    for (size_t e = 0; e < 8; e++) {
+        tally.errors[e] = base + 4 + e;
+    }
+    return tally;
+}
+
 /* Whether two boards agree in every field; what stands between the fields is nobody's. */
 static bool same_board(ketphiroj_board a, ketphiroj_board b) {
     return memcmp(a.first.bytes, b.first.bytes, sizeof a.first.bytes) == 0 && a.first.held == b.first.held
         && memcmp(a.second.bytes, b.second.bytes, sizeof a.second.bytes) == 0 && a.second.held == b.second.held
         && a.settings.baud == b.settings.baud && a.settings.accelerometer == b.settings.accelerometer
-        && a.settings.gyroscope == b.settings.gyroscope && a.readonly == b.readonly;
+        && a.settings.gyroscope == b.settings.gyroscope && a.readonly == b.readonly && same_tally(&a.tally0, &b.tally0)
+        && same_tally(&a.tally1, &b.tally1);
 }
 
 /* A refusal returns the board given, whatever stands in it. */
@@ -81,9 +101,12 @@ static void refusal_returns_board(void) {
     board.second.held = 0x99AABBCCDDEEFF00;
     board.settings = (ketphiroj_settings){0x12345678, 0x9A, 0xBC};
     board.readonly = true;
+    board.tally0 = totals_from(0x1000);
+    board.tally1 = totals_from(0xFEDCBA9876543210);
     fed_board fed = feed(2, board, room, 0);
     ketphiroj_stepped refused = fed.answer;
     agree(refused.number == KETPHIROJ_BAD_PORT && refused.taken == 0 && refused.skipped == 0 && !refused.saved, "a refusal");
+    agree(refused.error == 0, "the error of a refusal");
     agree(same_board(fed.board, board), "the board that a refusal returns");
     board.first.held = 0;
     agree(feed(0, board, room, 0).answer.number == KETPHIROJ_BAD_BOARD, "second.held");
@@ -282,26 +305,28 @@ static void settings_come_back(void) {
     }
 }
 
-/* An array of `length` bytes for port 0, which holds 4 of them, and the rest of a command. */
-static ketphiroj_stepped feed_array(uint8_t *bytes, size_t length) {
+/* An array of `length` bytes for port 0, which holds 4 of them, a row of `count` totals, and the rest of a command. */
+static ketphiroj_stepped feed_array(uint8_t *bytes, size_t length, uint64_t *totals, size_t count) {
     ketphiroj_settings settings = {9600, 1, 5};
     memcpy(bytes, set_accelerometer, 4);
     return ketphiroj_feed_in_place(
-        0, bytes, length, 4, 9, settings, true, set_accelerometer + 4, sizeof set_accelerometer - 4, room, sizeof room, page,
-        sizeof page);
+        0, bytes, length, 4, 9, settings, true, totals, count, set_accelerometer + 4, sizeof set_accelerometer - 4, room, sizeof room,
+        page, sizeof page);
 }
 
 /* An array of 260 bytes is taken; of any other length it is refused, with the held count and the settings as given. */
 static void arrays_are_measured(void) {
     static const size_t wrong[] = {0, KETPHIROJ_PORT_ROOM - 1, KETPHIROJ_PORT_ROOM + 1};
     uint8_t bytes[KETPHIROJ_PORT_ROOM + 1] = {0};
+    uint64_t totals[KETPHIROJ_TOTALS] = {0}, zeros[KETPHIROJ_TOTALS] = {0};
     for (size_t i = 0; i < sizeof wrong / sizeof wrong[0]; i++) {
-        ketphiroj_stepped s = feed_array(bytes, wrong[i]);
+        ketphiroj_stepped s = feed_array(bytes, wrong[i], totals, KETPHIROJ_TOTALS);
+        agree(memcmp(totals, zeros, sizeof totals) == 0, "totals beside an array that is not 260 bytes");
         agree(s.number == KETPHIROJ_BAD_BOARD && s.taken == 0 && s.skipped == 0 && !s.saved, "an array that is not 260 bytes");
         agree(s.held == 4 && memcmp(bytes, set_accelerometer, 4) == 0, "what a refused array holds");
         agree(s.settings.baud == 9600 && s.settings.accelerometer == 1 && s.settings.gyroscope == 5, "settings refused");
     }
-    ketphiroj_stepped s = feed_array(bytes, KETPHIROJ_PORT_ROOM);
+    ketphiroj_stepped s = feed_array(bytes, KETPHIROJ_PORT_ROOM, totals, KETPHIROJ_TOTALS);
     agree(s.number == KETPHIROJ_DONE && s.held == 0, "an array of 260 bytes");
     agree(s.settings.baud == 9600 && s.settings.accelerometer == 3 && s.settings.gyroscope == 5, "settings answered");
 }
@@ -311,6 +336,7 @@ static void silent_arrays_are_measured(void) {
     static const size_t lengths[] = {0, KETPHIROJ_PORT_ROOM - 1, KETPHIROJ_PORT_ROOM + 1, KETPHIROJ_PORT_ROOM};
     static const uint8_t false_header[] = {0xA5, 0xA5, 0x01, 0xFF};
     ketphiroj_settings settings = {9600, 1, 5};
+    uint64_t totals[KETPHIROJ_TOTALS] = {0};
     for (size_t i = 0; i < sizeof lengths / sizeof lengths[0]; i++) {
         uint8_t bytes[KETPHIROJ_PORT_ROOM + 1], given[sizeof bytes];
         memset(bytes, 0x31, sizeof bytes);
@@ -318,7 +344,7 @@ static void silent_arrays_are_measured(void) {
         memcpy(bytes + 4, set_accelerometer, sizeof set_accelerometer);
         memcpy(given, bytes, sizeof given);
         ketphiroj_stepped s = ketphiroj_silence_in_place(
-            1, bytes, lengths[i], 9, 15, settings, false, room, sizeof room, page, sizeof page);
+            1, bytes, lengths[i], 9, 15, settings, false, totals, KETPHIROJ_TOTALS, room, sizeof room, page, sizeof page);
         agree(s.settings.baud == 9600 && s.settings.gyroscope == 5 && s.taken == 0 && !s.saved, "settings of a silence");
         if (lengths[i] == KETPHIROJ_PORT_ROOM) {
             agree(s.number == KETPHIROJ_DONE && s.skipped == 4 && s.held == 1, "a silence of an array of 260 bytes");
@@ -348,6 +374,7 @@ static void silences_pass(void) {
         ketphiroj_port *named = port == 0 ? &given.first : &given.second;
         memset(named->bytes, 0, sizeof named->bytes);
         named->held = 0;
+        (port == 0 ? &given.tally0 : &given.tally1)->skipped = 4;
         agree(same_board(board, given), "the board after a silence");
     }
 }
@@ -361,6 +388,8 @@ static ketphiroj_board dirty_board(void) {
     board.second.held = 260;
     board.settings = (ketphiroj_settings){0x12345678, 0x9A, 0xBC};
     board.readonly = true;
+    board.tally0 = totals_from(7);
+    board.tally1 = totals_from(70);
     return board;
 }
 
@@ -378,6 +407,8 @@ static void same_start(const uint8_t *given, size_t length, const char *what) {
         uint8_t number = ketphiroj_start_board(&board, profiles[i], given, length);
         agree(number == started.number && same_board(board, started.board), what);
         agree(board.readonly == profiles[i], "the profile of a start");
+        static const ketphiroj_tally zero = {0, 0, 0, {0}};
+        agree(same_tally(&board.tally0, &zero) && same_tally(&board.tally1, &zero), "the totals of a start");
         agree(memcmp(before, given, length) == 0, "the page that a board starts on");
     }
 }
@@ -475,16 +506,18 @@ static void old_ranges_pass(void) {
 static void profile_passes(uint8_t port, bool readonly, uint8_t error) {
     ketphiroj_settings settings = {9600, 1, 5};
     uint8_t bytes[KETPHIROJ_PORT_ROOM] = {0}, accelerometer = error == 0 ? 3 : 1;
+    uint64_t totals[KETPHIROJ_TOTALS] = {0};
     ketphiroj_stepped s = ketphiroj_feed_in_place(
-        port, bytes, sizeof bytes, 0, 0, settings, readonly, set_accelerometer, sizeof set_accelerometer, room, sizeof room, page,
-        sizeof page);
+        port, bytes, sizeof bytes, 0, 0, settings, readonly, totals, KETPHIROJ_TOTALS, set_accelerometer, sizeof set_accelerometer,
+        room, sizeof room, page, sizeof page);
     agree(s.number == KETPHIROJ_DONE && s.settings.accelerometer == accelerometer && room[7] == error, "a feed in a profile");
     memcpy(bytes, set_accelerometer, sizeof set_accelerometer);
     size_t held = sizeof set_accelerometer;
     s = ketphiroj_silence_in_place(
-        port, bytes, sizeof bytes, port == 0 ? held : 0, port == 0 ? 0 : held, settings, readonly, room, sizeof room, page,
-        sizeof page);
+        port, bytes, sizeof bytes, port == 0 ? held : 0, port == 0 ? 0 : held, settings, readonly, totals, KETPHIROJ_TOTALS, room,
+        sizeof room, page, sizeof page);
     agree(s.number == KETPHIROJ_DONE && s.settings.accelerometer == accelerometer && room[7] == error, "a silence in a profile");
+    agree(s.error == error && totals[3 + error] == 2, "the error of a silence, counted with that of the feed");
     ketphiroj_board board = ketphiroj_start(readonly, page, sizeof page).board;
     agree(board.readonly == readonly, "the profile of a board");
     fed_board fed = feed(port, board, set_accelerometer, sizeof set_accelerometer);
@@ -502,6 +535,75 @@ static void profiles_pass(void) {
     ketphiroj_reply r = reply_of(0x02, refused, sizeof refused, 0);
     agree(r.number == KETPHIROJ_DONE && r.echo == 0x07 && r.error == 7, "error 7");
     agree(row_refused(reply_of(0x02, none, sizeof none, 0), KETPHIROJ_BAD_TYPE), "no error 8");
+}
+
+/* Of eleven totals each is counted in its place; a row of any other length is refused, and left alone. */
+static void totals_are_measured(void) {
+    static const size_t wrong[] = {0, KETPHIROJ_TOTALS - 1, KETPHIROJ_TOTALS + 1};
+    ketphiroj_tally given = totals_from(100), expected = given;
+    uint64_t totals[KETPHIROJ_TOTALS + 1] = {0};
+    memcpy(totals, &given, sizeof given);
+    uint8_t bytes[KETPHIROJ_PORT_ROOM] = {0};
+    for (size_t i = 0; i < sizeof wrong / sizeof wrong[0]; i++) {
+        ketphiroj_stepped s = feed_array(bytes, sizeof bytes, totals, wrong[i]);
+        agree(s.number == KETPHIROJ_BAD_BOARD && s.taken == 0 && s.held == 4 && s.settings.accelerometer == 1, "totals that are not 11");
+        agree(memcmp(totals, &given, sizeof given) == 0 && totals[KETPHIROJ_TOTALS] == 0, "the totals of a refusal");
+    }
+    ketphiroj_stepped s = feed_array(bytes, sizeof bytes, totals, KETPHIROJ_TOTALS);
+    expected.taken += 6; /* 4 of the message's 10 bytes were held */
+    expected.good += 10;
+    expected.errors[0]++;
+    agree(s.number == KETPHIROJ_DONE && s.error == 0 && memcmp(totals, &expected, sizeof expected) == 0, "11 totals");
+    agree(totals[KETPHIROJ_TOTALS] == 0, "the number behind the totals");
+}
+
+/* A board counts in the totals of the port that is called, and each total stops at its largest figure. */
+static void boards_count(void) {
+    static const uint8_t unknown[] = {0x77, 0xA5, 0xA5, 0x03, 0x02, 0x02, 0x00, 0x51, 0x2D};
+    for (uint8_t port = 0; port < 2; port++) {
+        ketphiroj_board board = ketphiroj_start(KETPHIROJ_FULL, page, sizeof page).board;
+        board.tally0 = totals_from(50);
+        board.tally1 = totals_from(500);
+        ketphiroj_board expected = board;
+        ketphiroj_tally *named = port == 0 ? &expected.tally0 : &expected.tally1;
+        fed_board fed = feed(port, board, unknown, sizeof unknown);
+        named->taken += 9;
+        named->skipped += 1;
+        named->good += 8;
+        named->errors[2]++;
+        agree(fed.answer.number == KETPHIROJ_DONE && fed.answer.error == 2, "the error that is answered");
+        agree(same_board(fed.board, expected), "the totals of a port");
+        memset(&board.tally0, 0xFF, sizeof board.tally0);
+        memset(&board.tally1, 0xFF, sizeof board.tally1);
+        fed = feed(port, board, unknown, sizeof unknown);
+        agree(fed.answer.number == KETPHIROJ_DONE && same_board(fed.board, board), "totals that have stopped");
+    }
+}
+
+/* A record of the driver's own: each argument in its place, and any are taken. */
+static void counts_pass(void) {
+    ketphiroj_tally tally = totals_from(10), expected = tally;
+    ketphiroj_count(&tally, KETPHIROJ_DONE, 100, 20, 6, 3000, 7);
+    expected.taken += 100;
+    expected.skipped += 20;
+    expected.good += 3073;
+    expected.errors[6]++;
+    agree(same_tally(&tally, &expected), "a call counted");
+    ketphiroj_count(&tally, KETPHIROJ_CHUNK_USED_UP, 5, 0, 6, 0, 6);
+    expected.taken += 5;
+    agree(same_tally(&tally, &expected), "a call without a message counted, and no good bytes");
+    ketphiroj_count(&tally, KETPHIROJ_DONE, 0, 0, 8, 0, 0);
+    agree(same_tally(&tally, &expected), "no error 8 counted");
+    for (unsigned number = 2; number < 256; number++) {
+        ketphiroj_count(&tally, (uint8_t) number, 1, 2, 3, 4, 5);
+    }
+    agree(same_tally(&tally, &expected), "no other number counted");
+    ketphiroj_count(&tally, KETPHIROJ_DONE, SIZE_MAX, 1, 0, SIZE_MAX, SIZE_MAX - 1);
+    expected.taken = UINT64_MAX;
+    expected.skipped += 1;
+    expected.good = UINT64_MAX;
+    expected.errors[0]++;
+    agree(same_tally(&tally, &expected), "totals that stop, and a sum that does not fit");
 }
 
 int main(void) {
@@ -524,6 +626,9 @@ int main(void) {
     numbers_pass();
     old_ranges_pass();
     profiles_pass();
+    totals_are_measured();
+    boards_count();
+    counts_pass();
     printf("layout: %d agree, %d differ\n", agreeing, differing);
     return differing != 0;
 }

@@ -257,7 +257,6 @@ impl Board {
     /// board.feed(0, &set, &mut room, &mut page)?;
     /// board.feed(0, &set[..5], &mut room, &mut page)?;
     /// assert_eq!((board.settings.accelerometer, board.first.held), (4, 5));
-    ///
     /// assert_eq!((board.tally0.taken, board.tally0.good), (15, 10));
     ///
     /// // None of it is on the page, so that a start forgets it.

@@ -45,8 +45,8 @@ pub struct StartedInPlace {
     pub readonly: bool,
 }
 
-/// What a feed answers, and a silence, which takes no byte. Where it is refused, the counts are 0, and the held count and
-/// the settings are the ones given.
+/// What a feed answers, and a silence, which takes no byte. Where it is refused, the counts and the error are 0, and the held
+/// count and the settings are the ones given.
 #[derive(Clone, Copy, Debug, PartialEq, Eq)]
 #[repr(C)]
 pub struct Stepped {

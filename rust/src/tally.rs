@@ -9,9 +9,9 @@ use crate::refusal::Refusal;
 /// A board has one for each port and counts there itself ([`Board::tally`](crate::Board::tally)). A driver that wants them on its
 /// own keeps a record beside the board, see [`Tally::count`].
 ///
-/// Each total stops at [`u64::MAX`], for itself, and then says "at least"; none begins anew. Until `taken`, `skipped` or `good` has
-/// stopped, `taken` is `good` plus `skipped` plus the bytes that the port holds. A start, a refused one too, gives zeros, and a
-/// refused call changes none. Any totals are sound: no call refuses a board for them.
+/// Each total stops at [`u64::MAX`], for itself, and then says "at least"; none begins anew. From a start on, and until `taken` has
+/// stopped, which is the largest of the three, `taken` is `good` plus `skipped` plus the bytes that the port holds. A start, a refused
+/// one too, gives zeros, and a refused call changes none. Any totals are sound: no call refuses a board for them.
 ///
 /// ```
 /// use ketphiroj::{Board, Outcome, Profile, Refusal, Tally};
@@ -76,7 +76,8 @@ impl Tally {
     /// port that it was of: what the call gave, and the bytes that the port held before it and after it.
     ///
     /// A record that is zero when the board is started, and in which every call of its port is counted, equals the board's totals of
-    /// that port after each of them. That is proved of the library. A refusal counts nothing, and so may be passed or left out.
+    /// that port after each of them. That is proved of the library; and so does one that is begun later, with the board's totals in
+    /// place of zero. A refusal counts nothing, and so may be passed or left out.
     ///
     /// ```
     /// use ketphiroj::{Outcome, Refusal, Tally};

@@ -1,10 +1,10 @@
 //! The paper's sample lines through the wrapper, starts in place, every refusal, numbered commands over a power cut, the
-//! gyroscope's ranges of older boards, silences, and read-only boards.
+//! gyroscope's ranges of older boards, silences, read-only boards, and the totals of each port.
 
 use ketphiroj::{
-    append_field, check_message, check_page, code, copy_body, factory_page, field_data, function, read_field,
+    append_field, check_message, check_page, code, copy_body, factory_page, ffi, field_data, function, read_field,
     read_reply, read_rows, write_command, write_data, write_message, write_numbered, Board, Outcome, Port, Profile,
-    Refusal, Reply, Settings, Values, NUMBERED, PAGE,
+    Refusal, Reply, Settings, Tally, Values, NUMBERED, PAGE,
 };
 
 const BLANK: [u8; PAGE] = [0xFF; PAGE];
@@ -13,6 +13,13 @@ const BLANK: [u8; PAGE] = [0xFF; PAGE];
 fn hex(text: &str) -> Vec<u8> {
     let digits: Vec<u32> = text.chars().filter_map(|digit| digit.to_digit(16)).collect();
     digits.chunks(2).map(|pair| (pair[0] * 16 + pair[1]) as u8).collect()
+}
+
+/// The totals of one message with this error.
+fn one(error: usize) -> [u64; 8] {
+    let mut errors = [0; 8];
+    errors[error] = 1;
+    errors
 }
 
 /// A board on a blank page, and the page.
@@ -62,11 +69,12 @@ fn damaged_ping() {
     let (mut board, mut page) = fresh();
     let mut room = [0x77; Board::REPLY];
     let outcome = board.feed(0, &hex("A5A5010202004F24"), &mut room, &mut page);
-    assert_eq!(outcome, Ok(Outcome::Reported { taken: 8, skipped: 1, saved: false, reply: 10 }));
+    assert_eq!(outcome, Ok(Outcome::Reported { taken: 8, skipped: 1, saved: false, error: 1, reply: 10 }));
     assert_eq!(room[10..], [0x77; Board::REPLY - 10]);
     assert_eq!(board.first.held, 7);
     assert_eq!(board.feed(0, &[], &mut room, &mut page), Ok(Outcome::UsedUp { taken: 0, skipped: 7 }));
-    assert_eq!(board, fresh().0);
+    let tally0 = Tally { taken: 8, skipped: 8, good: 0, errors: one(1) };
+    assert_eq!(board, Board { tally0, ..fresh().0 });
 }
 
 /// P7: a stray A5 is skipped, and so is a run of them; A5 A5 alone is held.
@@ -77,9 +85,10 @@ fn stray_bytes() {
         let (mut board, mut page) = fresh();
         let mut room = [0; Board::REPLY];
         let outcome = board.feed(0, &[vec![0xA5; run], ping.clone()].concat(), &mut room, &mut page);
-        assert_eq!(outcome, Ok(Outcome::Reported { taken: run + 8, skipped: run, saved: false, reply: 10 }));
+        assert_eq!(outcome, Ok(Outcome::Reported { taken: run + 8, skipped: run, saved: false, error: 0, reply: 10 }));
         assert_eq!(room[..10], hex("A5A5010480020200D3CF"));
-        assert_eq!(board, fresh().0);
+        let tally0 = Tally { taken: run as u64 + 8, skipped: run as u64, good: 8, errors: one(0) };
+        assert_eq!(board, Board { tally0, ..fresh().0 });
 
         let outcome = board.feed(1, &vec![0xA5; run], &mut room, &mut page);
         assert_eq!(outcome, Ok(Outcome::UsedUp { taken: run, skipped: run.saturating_sub(2) }));
@@ -104,7 +113,7 @@ fn saves() {
     let (mut board, mut page) = fresh();
     let mut room = [0; Board::REPLY];
     let saved = board.feed(0, &hex("A5A50203010103 547F"), &mut room, &mut page);
-    assert_eq!(saved, Ok(Outcome::Reported { taken: 9, skipped: 0, saved: true, reply: 10 }));
+    assert_eq!(saved, Ok(Outcome::Reported { taken: 9, skipped: 0, saved: true, error: 0, reply: 10 }));
     assert_eq!(page[..8], hex("01 010404 0001C200"));
     assert_eq!(page[8..], [0xFF; 56]);
 
@@ -146,7 +155,7 @@ fn three_settings() {
     let save = command(function::SAVE, &three);
     let mut room = [0; Board::REPLY];
     let saved = board.feed(0, &save, &mut room, &mut page);
-    assert_eq!(saved, Ok(Outcome::Reported { taken: 15, skipped: 0, saved: true, reply: 18 }));
+    assert_eq!(saved, Ok(Outcome::Reported { taken: 15, skipped: 0, saved: true, error: 0, reply: 18 }));
     assert_eq!(room[..18], done);
     assert_eq!(page[..16], hex("03 010A04 070E01 080F01 000E1000 04 05"));
 
@@ -224,14 +233,16 @@ impl Driver {
         let before = self.page;
         let mut room = [0; Board::REPLY];
         let outcome = self.board.feed(port, message, &mut room, &mut self.page).unwrap();
-        let Outcome::Reported { taken, skipped: 0, saved, reply } = outcome else { panic!("{outcome:?}") };
+        let Outcome::Reported { taken, skipped: 0, saved, error, reply } = outcome else { panic!("{outcome:?}") };
         assert_eq!(taken, message.len());
         if saved {
             self.stored = self.page;
         } else {
             assert_eq!(self.page, before);
         }
-        read_rows(&room[..reply]).unwrap().map(|row| row.error).collect()
+        let errors: Vec<u8> = read_rows(&room[..reply]).unwrap().map(|row| row.error).collect();
+        assert_eq!(error, errors[0]);
+        errors
     }
 
     fn last_number(&self) -> Option<u32> {
@@ -378,7 +389,8 @@ fn numbered_commands_refused() {
         let mut room = [0; Board::REPLY];
         let mut bytes = message(NUMBERED, &hex(payload));
         let outcome = board.feed(0, &bytes, &mut room, &mut page).unwrap();
-        assert_eq!(outcome, Outcome::Reported { taken: bytes.len(), skipped: 0, saved: spent, reply: 10 }, "{payload}");
+        let reported = Outcome::Reported { taken: bytes.len(), skipped: 0, saved: spent, error, reply: 10 };
+        assert_eq!(outcome, reported, "{payload}");
         let row = Reply { kind: NUMBERED, echo, error, value: None };
         assert_eq!(read_reply(&room[..10], 0), Ok(row), "{payload}");
         assert_eq!(Values::read(&page).unwrap().last_number, Some(if spent { 101 } else { 100 }));
@@ -388,7 +400,7 @@ fn numbered_commands_refused() {
         bytes[end] ^= 1;
         let mut page = BLANK;
         let outcome = Board::start(Profile::Full, &page).unwrap().feed(0, &bytes, &mut room, &mut page).unwrap();
-        assert_eq!(outcome, Outcome::Reported { taken: bytes.len(), skipped: 1, saved: false, reply: 10 });
+        assert_eq!(outcome, Outcome::Reported { taken: bytes.len(), skipped: 1, saved: false, error: 1, reply: 10 });
         assert_eq!((room[6..8].to_vec(), page), (vec![0, 1], BLANK));
     }
 }
@@ -499,25 +511,31 @@ fn old_ranges_written_and_read() {
     assert_eq!(read_reply(&message(0x02, &hex("80020800 080108")), 0), Err(Refusal::Kind));
 }
 
+/// Totals of which none can grow.
+const ALL_STOPPED: Tally = Tally { taken: u64::MAX, skipped: u64::MAX, good: u64::MAX, errors: [u64::MAX; 8] };
+
 /// Boards that no start gives: sound ones that hold bytes on other settings, and one that a feed would refuse.
 fn dirty_boards() -> [Board; 3] {
     let settings = Settings { baud: 9600, accelerometer: 1, gyroscope: 1 };
     let (full, empty) = (Port { bytes: [0xA5; 260], held: 260 }, Port { bytes: [0x77; 260], held: 0 });
     let unsound = Settings { baud: 0, accelerometer: 0xFF, gyroscope: 0 };
+    let (some, most) = (Tally { taken: 3, skipped: 2, good: 1, errors: [9; 8] }, ALL_STOPPED);
     [
-        Board { first: full, second: empty, settings, readonly: false },
-        Board { first: empty, second: full, settings, readonly: true },
+        Board { first: full, second: empty, settings, readonly: false, tally0: some, tally1: most },
+        Board { first: empty, second: full, settings, readonly: true, tally0: most, tally1: some },
         Board {
             first: Port { held: usize::MAX, ..full },
             second: Port { held: 261, ..full },
             settings: unsound,
             readonly: true,
+            tally0: most,
+            tally1: most,
         },
     ]
 }
 
-/// A start in place gives the board of a start by value, from a board of any contents and profile. Where the start is
-/// refused, that is the factory's board, as a blank page gives it, in the profile asked for.
+/// A start in place gives the board of a start by value, from a board of any contents and profile, with totals of zero. Where
+/// the start is refused, that is the factory's board, as a blank page gives it, in the profile asked for.
 #[test]
 fn starts_in_place() {
     let page = |baud, accelerometer, gyroscope, last_number| {
@@ -544,7 +562,7 @@ fn starts_in_place() {
             assert_eq!(board.start_in_place(profile, given), started.map(|_| ()), "{given:02X?}");
             let refused = Board { readonly: profile == Profile::ReadOnly, ..factory };
             assert_eq!(board, started.unwrap_or(refused), "{given:02X?}");
-            assert_eq!(board.profile(), profile);
+            assert_eq!((board.profile(), board.tally0, board.tally1), (profile, Tally::new(), Tally::new()));
         }
     }
     assert_eq!(
@@ -584,8 +602,9 @@ fn drain(board: &mut Board, port: u8, page: &mut [u8]) -> Vec<(usize, bool, Vec<
     loop {
         let mut room = [0x77; Board::REPLY];
         match board.silence(port, &mut room, page).unwrap() {
-            Outcome::Reported { taken, skipped, saved, reply } => {
+            Outcome::Reported { taken, skipped, saved, error, reply } => {
                 assert_eq!((taken, &room[reply..]), (0, &[0x77; Board::REPLY][reply..]));
+                assert_eq!(read_reply(&room[..reply], 0).unwrap().error, error);
                 answers.push((skipped, saved, room[..reply].to_vec()));
             }
             Outcome::UsedUp { taken, skipped } => {
@@ -618,7 +637,7 @@ fn silence_behind_false_headers() {
         assert_eq!(answers, [(header.len(), false, hex(PING_REPLY)), (4, false, vec![])]);
         assert_eq!(named(board), Port::new());
         let outcome = board.feed(1 - port, &hex(PING)[5..], &mut room, &mut page);
-        assert_eq!(outcome, Ok(Outcome::Reported { taken: 3, skipped: 0, saved: false, reply: 10 }));
+        assert_eq!(outcome, Ok(Outcome::Reported { taken: 3, skipped: 0, saved: false, error: 0, reply: 10 }));
     }
 }
 
@@ -658,7 +677,7 @@ fn feed_before_a_silence_is_drained() {
     let ping = hex(PING);
     assert!(replies(&mut board, &[hex("A5A501FF"), ping.clone(), ping[..3].to_vec()].concat(), &mut page).is_empty());
     let mut room = [0; Board::REPLY];
-    let reported = Ok(Outcome::Reported { taken: 0, skipped: 4, saved: false, reply: 10 });
+    let reported = Ok(Outcome::Reported { taken: 0, skipped: 4, saved: false, error: 0, reply: 10 });
     assert_eq!(board.silence(0, &mut room, &mut page), reported);
     assert_eq!(board.first.held, 3);
     assert_eq!(replies(&mut board, &ping[3..], &mut page), [hex(PING_REPLY)]);
@@ -673,7 +692,7 @@ fn silence_and_numbers() {
     for (saved, error) in [(true, 0), (false, 5)] {
         assert!(replies(&mut board, &held, &mut page).is_empty());
         let outcome = board.silence(0, &mut room, &mut page);
-        assert_eq!(outcome, Ok(Outcome::Reported { taken: 0, skipped: 4, saved, reply: 10 }));
+        assert_eq!(outcome, Ok(Outcome::Reported { taken: 0, skipped: 4, saved, error, reply: 10 }));
         let row = Reply { kind: NUMBERED, echo: code::GYROSCOPE, error, value: None };
         assert_eq!(read_reply(&room[..10], 0), Ok(row));
         assert_eq!(board.settings.gyroscope, 5);
@@ -722,7 +741,10 @@ fn read_only_board() {
         let mut driver = Driver::start_in(Profile::ReadOnly, BLANK);
         let before = driver.board;
         assert_eq!(driver.errors(1, &bytes), port_1, "{bytes:02X?}");
-        assert_eq!((driver.board, driver.page, driver.stored), (before, BLANK, BLANK), "{bytes:02X?}");
+        let taken = bytes.len() as u64;
+        let tally1 = Tally { taken, skipped: 0, good: taken, errors: one(usize::from(port_1[0])) };
+        let after = Board { tally1, ..before };
+        assert_eq!((driver.board, driver.page, driver.stored), (after, BLANK, BLANK), "{bytes:02X?}");
         assert_eq!(driver.errors(0, &bytes), port_0, "{bytes:02X?}");
         assert_eq!(Driver::start(BLANK).errors(1, &bytes), port_0, "{bytes:02X?}");
     }
@@ -731,8 +753,9 @@ fn read_only_board() {
     assert_eq!(room[..10], message(NUMBERED, &hex("80020001")));
 }
 
-/// What port 0 sees after each of its calls: the outcome, the reply, the bytes that it holds, the settings and the page.
-type Seen = Vec<(Outcome, Vec<u8>, Port, Settings, [u8; PAGE])>;
+/// What port 0 sees after each of its calls: the outcome, the reply, the bytes that it holds, the settings and the page; and
+/// its totals.
+type Seen = Vec<(Outcome, Vec<u8>, Port, Settings, [u8; PAGE], Tally)>;
 
 /// A day on port 0 of a read-only board, before each command of which something comes on port 1.
 fn day_beside(other: impl Fn(usize, &mut Board, &mut [u8; PAGE])) -> Seen {
@@ -751,7 +774,7 @@ fn day_beside(other: impl Fn(usize, &mut Board, &mut [u8; PAGE])) -> Seen {
                 board.silence(0, &mut room, &mut page).unwrap()
             }
         };
-        seen.push((outcome, room.to_vec(), board.first, board.settings, page));
+        seen.push((outcome, room.to_vec(), board.first, board.settings, page, board.tally0));
     }
     seen
 }
@@ -783,10 +806,11 @@ fn port_0_sees_nothing_of_port_1() {
     assert_ne!(full, alone);
 }
 
-/// A refused feed or silence leaves board, room and page as they were.
+/// A refused feed or silence leaves board, room and page as they were, and counts nothing. Totals are never what is refused.
 #[test]
 fn refused_feeds_and_silences() {
-    let (sound, _) = fresh();
+    let tally0 = Tally { taken: 3, skipped: 2, good: 1, errors: [9; 8] };
+    let sound = Board { tally0, tally1: ALL_STOPPED, ..fresh().0 };
     let mut unsound = sound;
     unsound.second.held = 261;
     let with_range = |gyroscope| Board { settings: Settings { gyroscope, ..sound.settings }, ..sound };
@@ -810,6 +834,211 @@ fn refused_feeds_and_silences() {
         assert_eq!(board.silence(port, &mut room, &mut page), Err(refusal));
         assert_eq!(board, given);
         assert!(room.iter().all(|&byte| byte == 0x11) && page.iter().all(|&byte| byte == 0x22));
+    }
+}
+
+/// A read-only board, and the driver's own record of each port beside it.
+struct Counted {
+    board: Board,
+    page: [u8; PAGE],
+    own: [Tally; 2],
+}
+
+impl Counted {
+    fn start() -> Counted {
+        let board = Board::start(Profile::ReadOnly, &BLANK).unwrap();
+        Counted { board, page: BLANK, own: [Tally::new(); 2] }
+    }
+
+    fn held(&self, port: u8) -> usize {
+        [self.board.first.held, self.board.second.held][usize::from(port)]
+    }
+
+    /// Counts a call in the driver's record of its port. Afterwards both records equal the board's totals, and of each port the
+    /// bytes taken are the good ones, the skipped ones and those held.
+    fn call(
+        &mut self,
+        port: u8,
+        call: impl FnOnce(&mut Board, &mut [u8]) -> Result<Outcome, Refusal>,
+    ) -> Result<Outcome, Refusal> {
+        let before = self.held(port);
+        let answer = call(&mut self.board, &mut self.page);
+        self.own[usize::from(port)].count(&answer, before, self.held(port));
+        for port in [0, 1] {
+            let totals = self.board.tally(port).unwrap();
+            assert_eq!(totals, &self.own[usize::from(port)], "port {port} after {answer:?}");
+            assert_eq!(totals.taken, totals.good + totals.skipped + self.held(port) as u64);
+        }
+        answer
+    }
+
+    /// Feeds a piece until it is used up, after a feed that is refused.
+    fn feed(&mut self, port: u8, mut piece: &[u8]) {
+        let refused = self.call(port, |board, page| board.feed(port, piece, &mut [0; Board::REPLY - 1], page));
+        assert_eq!(refused, Err(Refusal::Room));
+        let mut room = [0; Board::REPLY];
+        while let Outcome::Reported { taken, error, .. } =
+            self.call(port, |board, page| board.feed(port, piece, &mut room, page)).unwrap()
+        {
+            piece = &piece[taken..];
+            assert_eq!(room[7], error);
+        }
+    }
+
+    /// Reads what a port holds to its end.
+    fn silence(&mut self, port: u8) {
+        let mut room = [0; Board::REPLY];
+        while let Outcome::Reported { .. } =
+            self.call(port, |board, page| board.silence(port, &mut room, page)).unwrap()
+        {}
+        assert_eq!(self.held(port), 0);
+    }
+}
+
+/// What comes on port 0 of a read-only board: each error from 0 to 6, commands of two fields, of which the first counts, noise,
+/// and a Ping behind a false header.
+fn line_0() -> Vec<u8> {
+    let two = ["08020108 080102", "080102 08020108"].map(|fields| message(0x02, &hex(fields)));
+    [
+        hex(&format!("A5 {PING} 000102 A5A5010202004F24 A5A503020200512D A5A501004B85")),
+        two.concat(),
+        message(0x02, &hex("08020106")),
+        numbered(1, code::GYROSCOPE, function::USE, 5).repeat(2),
+        command(function::SAVE, &[(code::GYROSCOPE, 0)]),
+        hex(&format!("A5A501FF {PING} A5A50102")),
+    ]
+    .concat()
+}
+
+/// What comes on port 1: two commands that it may not use, a report, and a Ping that is cut off.
+fn line_1() -> Vec<u8> {
+    [
+        command(function::SAVE, &[(code::BAUD, 0)]),
+        numbered(7, code::PING, 0, 0),
+        command(function::REPORT, &[(code::BAUD, 0)]),
+        hex("FF A5A5010202"),
+    ]
+    .concat()
+}
+
+/// However the lines are cut, the totals at the end are the same. A driver's own records equal them after each call, refused
+/// ones among them.
+#[test]
+fn totals_of_lines() {
+    let lines = [line_0(), line_1()];
+    for size in 1..=lines[0].len() {
+        let mut counted = Counted::start();
+        for place in (0..lines[0].len()).step_by(size) {
+            for (port, line) in (0..).zip(&lines) {
+                counted.feed(port, line.chunks(size).nth(place / size).unwrap_or(&[]));
+            }
+        }
+        counted.silence(0);
+        counted.silence(1);
+        let tally0 = Tally { taken: 125, skipped: 20, good: 105, errors: [4, 1, 1, 1, 1, 2, 1, 0] };
+        let tally1 = Tally { taken: 37, skipped: 6, good: 31, errors: [1, 0, 0, 0, 0, 0, 0, 2] };
+        assert_eq!((counted.board.tally0, counted.board.tally1), (tally0, tally1), "pieces of {size}");
+    }
+}
+
+/// A start gives zeros, each port has totals of its own, and there are none of another port.
+#[test]
+fn totals_of_ports() {
+    let (mut board, mut page) = fresh();
+    assert_eq!((board.tally(0), board.tally(1)), (Some(&Tally::new()), Some(&Tally::default())));
+    board.feed(0, &[0], &mut [0; Board::REPLY], &mut page).unwrap();
+    board.feed(1, &[0; 2], &mut [0; Board::REPLY], &mut page).unwrap();
+    assert_eq!((board.tally0.taken, board.tally1.taken), (1, 2));
+    assert_eq!((board.tally(0), board.tally(1)), (Some(&board.tally0), Some(&board.tally1)));
+    assert!((2..=255).all(|port| board.tally(port).is_none()));
+}
+
+/// Each total stops at its largest figure, for itself, in the board and in a driver's record. A board with any totals is fed.
+#[test]
+fn totals_stop() {
+    const MOST: u64 = u64::MAX;
+    let tally = |taken, skipped, good, first| Tally { taken, skipped, good, errors: [first, 1, 2, 3, 4, 5, 6, 7] };
+    for (given, expected) in [
+        (tally(0, 0, 0, 0), tally(10, 2, 8, 1)),
+        (tally(MOST - 10, MOST - 2, MOST - 8, MOST - 1), tally(MOST, MOST, MOST, MOST)),
+        (tally(MOST - 9, 5, 5, 5), tally(MOST, 7, 13, 6)),
+        (tally(5, MOST - 1, 5, 5), tally(15, MOST, 13, 6)),
+        (tally(5, 5, MOST - 7, 5), tally(15, 7, MOST, 6)),
+        (tally(5, 5, 5, MOST), tally(15, 7, 13, MOST)),
+        (ALL_STOPPED, ALL_STOPPED),
+    ] {
+        let (sound, mut page) = fresh();
+        let with = |port, tally| match port {
+            0 => Board { tally0: tally, tally1: given, ..sound },
+            _ => Board { tally0: given, tally1: tally, ..sound },
+        };
+        for port in [0, 1] {
+            let (mut board, mut own) = (with(port, given), given);
+            let answer = board.feed(port, &hex(&format!("0000 {PING}")), &mut [0; Board::REPLY], &mut page);
+            own.count(&answer, 0, 0);
+            assert_eq!((own, board), (expected, with(port, expected)), "{given:?}");
+        }
+    }
+}
+
+/// A driver's record takes any arguments: the good bytes are at least 0 and do not wrap, number 0 alone counts an error, none above
+/// 7, and numbers above 1 change nothing.
+#[test]
+fn any_calls_are_counted() {
+    const MOST: usize = usize::MAX;
+    let tally = |taken, skipped, good, errors| Tally { taken, skipped, good, errors };
+    let none = [0; 8];
+    for ((number, taken, skipped, error), (before, after), expected) in [
+        ((0, 8, 0, 0), (0, 0), tally(8, 0, 8, one(0))),
+        ((0, 3, 1, 7), (6, 0), tally(3, 1, 8, one(7))),
+        ((0, 3, 1, 8), (6, 0), tally(3, 1, 8, none)),
+        ((0, 3, 1, 255), (6, 0), tally(3, 1, 8, none)),
+        ((1, 3, 1, 7), (6, 0), tally(3, 1, 8, none)),
+        ((1, 0, 4, 0), (4, 0), tally(0, 4, 0, none)),
+        ((1, 0, 5, 0), (4, 0), tally(0, 5, 0, none)),
+        ((0, 1, 0, 1), (0, MOST), tally(1, 0, 0, one(1))),
+        ((0, 0, 0, 2), (MOST, 0), tally(0, 0, u64::MAX, one(2))),
+        ((1, MOST, MOST, 0), (MOST, MOST), tally(u64::MAX, u64::MAX, 0, none)),
+        ((1, MOST, 3, 0), (MOST, MOST), tally(u64::MAX, 3, u64::MAX - 3, none)),
+        ((1, MOST, 0, 0), (MOST, 0), tally(u64::MAX, 0, u64::MAX, none)),
+        ((2, 8, 1, 0), (9, 0), Tally::new()),
+        ((16, 8, 1, 0), (9, 0), Tally::new()),
+        ((255, MOST, MOST, 7), (MOST, 0), Tally::new()),
+    ] {
+        let mut own = Tally::new();
+        own.count_call(number, taken, skipped, error, before, after);
+        assert_eq!(own, expected, "{number} {taken} {skipped} {error}, held {before} and {after}");
+    }
+}
+
+/// A refused call counts nothing in a driver's record, whatever it held.
+#[test]
+fn refusals_are_not_counted() {
+    let given = Tally { taken: 3, skipped: 2, good: 1, errors: [9; 8] };
+    for refusal in Refusal::ALL {
+        let mut own = given;
+        own.count(&Err(refusal), 260, 0);
+        assert_eq!(own, given);
+    }
+}
+
+/// The totals are lent as a row of numbers. One that is not 11 long is refused as an unsound board, and left alone.
+#[test]
+fn rows_of_totals() {
+    let settings = fresh().0.settings;
+    for (length, quiet) in [0, 1, 10, 11, 12, 300].into_iter().flat_map(|length| [(length, false), (length, true)]) {
+        let (mut bytes, mut page, mut room) = ([0; Port::ROOM], BLANK, [0; Board::REPLY]);
+        let (held, chunk) = if quiet { (8, vec![]) } else { (0, hex(PING)) };
+        bytes[..held].copy_from_slice(&hex(PING)[..held]);
+        let mut totals = vec![7; length];
+        let (bytes, chunk, room, page) = (&mut bytes, &chunk, &mut room, &mut page);
+        let stepped = ffi::call_in_place(1, bytes, 0, held, settings, false, quiet, &mut totals, chunk, room, page);
+        let (number, expected) = match length {
+            ffi::TOTALS => (0, vec![7 + chunk.len() as u64, 7, 15, 8, 7, 7, 7, 7, 7, 7, 7]),
+            _ => (17, vec![7; length]),
+        };
+        assert_eq!((stepped.number, stepped.error, totals), (number, 0, expected), "{length}");
+        assert_eq!(stepped.held, if number == 0 { 0 } else { held });
     }
 }
 

@@ -1,4 +1,5 @@
-//! The library, through its wrapper: one port, fed piece by piece, each piece until it is used up.
+//! The library, through its wrapper: one port, fed piece by piece, each piece until it is used up. What it counts are the board's
+//! own totals.
 
 use crate::{Counts, PIECE};
 use ketphiroj::{Board, Outcome, Profile, PAGE};
@@ -7,37 +8,30 @@ use ketphiroj::{Board, Outcome, Profile, PAGE};
 pub struct Library {
     board: Board,
     page: [u8; PAGE],
-    counts: Counts,
 }
 
 impl Default for Library {
     fn default() -> Library {
         let page = [0xFF; PAGE];
         let board = Board::start(Profile::Full, &page).expect("a blank page");
-        Library { board, page, counts: Counts::default() }
+        Library { board, page }
     }
 }
 
 impl Library {
     pub fn feed(&mut self, mut piece: &[u8]) {
         let mut room = [0; Board::REPLY];
-        loop {
-            match self.board.feed(0, piece, &mut room, &mut self.page).expect("a sound board and page") {
-                Outcome::Reported { taken, skipped, .. } => {
-                    self.counts.messages += 1;
-                    self.counts.skipped += skipped as u64;
-                    piece = &piece[taken..];
-                }
-                Outcome::UsedUp { skipped, .. } => {
-                    self.counts.skipped += skipped as u64;
-                    return;
-                }
-            }
+        while let Outcome::Reported { taken, .. } =
+            self.board.feed(0, piece, &mut room, &mut self.page).expect("a sound board and page")
+        {
+            piece = &piece[taken..];
         }
     }
 
     pub fn counts(&self) -> Counts {
-        Counts { held: self.board.first.held as u64, ..self.counts }
+        let totals = &self.board.tally0;
+        let messages = totals.errors.iter().sum();
+        Counts { messages, skipped: totals.skipped, held: self.board.first.held as u64 }
     }
 }
 

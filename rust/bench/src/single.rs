@@ -1,6 +1,6 @@
 //! Single feeds of a few kinds, to see what a feed costs beside the scan.
 
-use ketphiroj::{Board, Profile, Values};
+use ketphiroj::{Board, Profile, Tally, Values};
 use std::time::Instant;
 
 /// One feed that leaves the board as it was, so that it can be repeated.
@@ -12,6 +12,8 @@ pub struct Case {
     first: Option<u8>,
     /// Whether the page is put back behind each feed, so that a number is fresh in each.
     put_back: bool,
+    /// Whether the feed is counted in a record of the driver's own, too.
+    own: bool,
 }
 
 fn page_with(last_number: Option<u32>) -> [u8; 64] {
@@ -44,7 +46,7 @@ pub fn cases() -> Vec<Case> {
     let ping = plain::message(0x01, &[0x02, 0]);
     let case = |name, port, chunk: &[u8], page| {
         let chunk = chunk.to_vec();
-        Case { name, port, chunk, page, first: None, put_back: false }
+        Case { name, port, chunk, page, first: None, put_back: false, own: false }
     };
     let blank = [0xFF; 64];
     vec![
@@ -52,6 +54,7 @@ pub fn cases() -> Vec<Case> {
         case("nothing fed, blank page", 0, &[], blank),
         case("nothing fed, page of three entries", 0, &[], full_page()),
         case("Ping, blank page", 0, &ping, blank),
+        Case { own: true, ..case("Ping, blank page, counted by its driver", 0, &ping, blank) },
         case("Ping, page of three entries", 0, &ping, full_page()),
         Case { first: Some(0xA5), ..case("Ping that straddles two feeds, both", 0, &ping[1..], blank) },
         case("report of a range, page of three entries", 0, &plain::message(0x02, &[0x07, 1, 2]), full_page()),
@@ -76,13 +79,17 @@ pub fn cases() -> Vec<Case> {
 const FEEDS: u32 = 2000;
 
 impl Case {
-    fn feed(&self, board: &mut Board, page: &mut [u8; 64]) {
+    fn feed(&self, board: &mut Board, own: &mut Tally, page: &mut [u8; 64]) {
         let mut room = [0; Board::REPLY];
         if let Some(byte) = self.first {
             let _ = board.feed(self.port, &[byte], &mut room, page);
         }
+        let before = board.first.held;
         // A refusal is one of the cases.
-        let _ = std::hint::black_box(board.feed(self.port, std::hint::black_box(&self.chunk), &mut room, page));
+        let answer = std::hint::black_box(board.feed(self.port, std::hint::black_box(&self.chunk), &mut room, page));
+        if self.own {
+            own.count(&answer, before, board.first.held);
+        }
         if self.put_back {
             *page = self.page;
         }
@@ -94,10 +101,12 @@ impl Case {
         for _ in 0..runs {
             let mut page = self.page;
             let mut board = Board::start(Profile::Full, &page).expect("a sound page");
+            let mut own = Tally::new();
             let begin = Instant::now();
             for _ in 0..FEEDS {
-                self.feed(&mut board, &mut page);
+                self.feed(&mut board, &mut own, &mut page);
             }
+            assert!(!self.own || own == board.tally0, "{}: not the board's totals", self.name);
             smallest = smallest.min(begin.elapsed().as_secs_f64() * 1e9 / f64::from(FEEDS));
         }
         smallest

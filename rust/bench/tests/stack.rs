@@ -41,7 +41,7 @@ pub struct Given {
 mod raw {
     use super::painted::Call;
     use super::{Given, PORT};
-    use ketphiroj::ffi::{Started, Stepped};
+    use ketphiroj::ffi::{totals_of, Started, Stepped};
     use ketphiroj::{Settings, PAGE};
     use std::arch::naked_asm;
     use std::mem::MaybeUninit;
@@ -56,6 +56,8 @@ mod raw {
         Settings,
         bool,
         bool,
+        *mut u64,
+        usize,
         *const u8,
         usize,
         *mut u8,
@@ -75,6 +77,8 @@ mod raw {
             settings: Settings,
             readonly: bool,
             quiet: bool,
+            totals: *mut u64,
+            totals_length: usize,
             chunk: *const u8,
             chunk_length: usize,
             room: *mut u8,
@@ -96,6 +100,8 @@ mod raw {
         _: Settings,
         _: bool,
         _: bool,
+        _: *mut u64,
+        _: usize,
         _: *const u8,
         _: usize,
         _: *mut u8,
@@ -118,6 +124,7 @@ mod raw {
         settings: Settings,
         readonly: bool,
         quiet: bool,
+        totals: (*mut u64, usize),
         chunk: (*const u8, usize),
         room: (*mut u8, usize),
         page: (*mut u8, usize),
@@ -134,7 +141,9 @@ mod raw {
 
         fn lend(given: &mut Given) -> PortCall {
             let board = &mut given.board;
+            let totals = totals_of(&mut board.tally1);
             PortCall {
+                totals: (totals.as_mut_ptr(), totals.len()),
                 bytes: (board.second.bytes.as_mut_ptr(), board.second.bytes.len()),
                 held: [board.first.held, board.second.held],
                 settings: board.settings,
@@ -148,12 +157,12 @@ mod raw {
 
         #[inline(never)]
         fn make(&self, function: PortFunction) {
-            let PortCall { bytes, held: [first, second], settings, readonly, quiet, chunk, room, page } = *self;
+            let PortCall { bytes, held: [first, second], settings, readonly, quiet, totals, chunk, room, page } = *self;
             // SAFETY: the pointers are those of `given`, which outlives this, with their lengths, and do not overlap.
             unsafe {
                 function(
-                    PORT, bytes.0, bytes.1, first, second, settings, readonly, quiet, chunk.0, chunk.1, room.0, room.1,
-                    page.0, page.1,
+                    PORT, bytes.0, bytes.1, first, second, settings, readonly, quiet, totals.0, totals.1, chunk.0,
+                    chunk.1, room.0, room.1, page.0, page.1,
                 )
             };
         }

@@ -7,7 +7,7 @@
 
 mod painted;
 
-use ketphiroj::{Board, Port, Settings};
+use ketphiroj::{Board, Port, Settings, Tally};
 use painted::{own_stack, pages, print_heading, print_row};
 use raw::StartInPlace;
 
@@ -91,7 +91,8 @@ mod raw {
 fn own_stack_of_a_start_in_place() {
     let port = Port { bytes: [0x31; Port::ROOM], held: Port::ROOM };
     let settings = Settings { baud: 0, accelerometer: 0, gyroscope: 0 };
-    let board = Board { first: port, second: port, settings, readonly: false };
+    let tally = Tally::new();
+    let board = Board { first: port, second: port, settings, readonly: false, tally0: tally, tally1: tally };
     print_heading();
     let bytes = pages().map(|page| own_stack::<StartInPlace>(&(board, page), StartInPlace::LIBRARY));
     print_row("start in place", bytes);
