@@ -37,11 +37,12 @@ pub extern "C" fn ketphiroj_start_in_place(
 
 // A feed of a chunk to port 0 or 1, or with `quiet` a silence, without a copy of the board: `bytes` are the 260 bytes of the named port,
 // written in place, `first` and `second` the held counts of ports 0 and 1, `readonly` the profile that the board was started in, `totals`
-// the 11 totals of the named port, counted in place. Number 0: a message was answered, its reply stands at the front of `room`, and an accepted save or a fresh number has written the page; the
-// rest of the chunk, behind the bytes taken, is to be fed again, and a silence is to be repeated. Number 1: the whole chunk was taken,
-// and there is nothing more to report; after a silence nothing is held. Nothing is written to the room or the page then. The answer has
-// the named port's held count and the settings afterwards. A refusal (16 to 20) writes nothing and answers those given; an array that is
-// not 260 bytes, and a row that is not 11 totals, give 17. With `quiet` the chunk is not looked at, and none is taken.
+// the 11 totals of the named port, counted in place. Number 0: a message was answered, its reply stands at the front of `room`, `error` is
+// the first error in it, and an accepted save or a fresh number has written the page; the rest of the chunk, behind the bytes taken, is to
+// be fed again, and a silence is to be repeated. Number 1: the whole chunk was taken, and there is nothing more to report; after a silence
+// nothing is held. Nothing is written to the room or the page then. The answer has the named port's held count and the settings afterwards.
+// A refusal (16 to 20) writes nothing, counts nothing and answers those given; an array that is not 260 bytes, and a row that is not 11
+// totals, give 17. With `quiet` the chunk is not looked at, and none is taken.
 //
 // One function for both, so that the compiler makes one of a whole call: with two, a feed is a function that calls another, and
 // takes more stack (docs/DECISIONS.md). The header gives each its name.

@@ -6,17 +6,13 @@ use crate::output::payload_of;
 use board::Board;
 use board::Port;
 use command::Settings;
-use std::num::wrapping_add_u64;
 
-// How far a listing has come. The board is fed in place: what port 0 holds stays in an array of its own, which goes along as a
-// lent slice, and port 1 holds nothing.
+// How far a listing has come. The board is fed in place: what port 0 holds stays in an array of its own, and its totals in another, which
+// go along as lent slices, and port 1 holds nothing.
 pub struct Progress {
     // the bytes that port 0 holds, and the working values
     pub held: usize,
     settings: Settings,
-    // bytes over the whole input; 2^64 bytes cannot be read, so that these do not wrap
-    pub taken: u64,
-    pub skipped: u64,
     // the last feed's number, and what it took
     number: u8,
     last: usize,
@@ -31,8 +27,6 @@ impl Progress {
         Progress {
             held: 0,
             settings,
-            taken: 0,
-            skipped: 0,
             number: 0,
             last: 0,
             used,
@@ -43,6 +37,7 @@ impl Progress {
     fn feed(
         self,
         bytes: &mut [u8],
+        totals: &mut [u64],
         chunk: &[u8],
         reply: &mut [u8],
         page: &mut [u8],
@@ -57,6 +52,7 @@ impl Progress {
             0,
             self.settings,
             Board::FULL,
+            totals,
             chunk,
             reply,
             page,
@@ -65,8 +61,6 @@ impl Progress {
         Progress {
             held: fed.held,
             settings,
-            taken: wrapping_add_u64(self.taken, fed.taken as u64),
-            skipped: wrapping_add_u64(self.skipped, fed.skipped as u64),
             number: fed.number,
             last: fed.taken,
             used: gather_found(fed.number, reply, fed.saved, self.used, out),
@@ -86,6 +80,7 @@ fn gather_found(number: u8, reply: &[u8], saved: bool, used: usize, out: &mut [u
 pub(crate) fn feed_all(
     start: Progress,
     bytes: &mut [u8],
+    totals: &mut [u64],
     piece: &[u8],
     page: &mut [u8],
     out: &mut [u8],
@@ -94,7 +89,7 @@ pub(crate) fn feed_all(
     let mut p = start;
     let mut at = 0;
     loop {
-        p = p.feed(bytes, &piece[at..], &mut reply, page, out);
+        p = p.feed(bytes, totals, &piece[at..], &mut reply, page, out);
         if p.number != 0 {
             return p;
         }

@@ -87,3 +87,27 @@ pub(crate) fn gather_counts(
     let written = listing::write_counts(taken, skipped, held, &mut out[from..]);
     from + written.length
 }
+
+// Puts a total behind `used` bytes of the text.
+fn put_total(n: u64, used: usize, text: &mut [u8]) -> usize
+    ensures { λ r. ⌜ used ≤ length (now (text .entry)) → r ≤ length (now (text .entry)) ⌝ }
+{
+    if text.len() < used {
+        return used;
+    }
+    let written = listing::write_total(n, &mut text[used..]);
+    used + written.length
+}
+
+// The totals of port 0, and what it holds, each on a line of its own.
+pub(crate) fn write_totals(totals: &[u64], held: usize) {
+    let mut text = [0u8; 252];
+    let mut used = 0;
+    let mut i = 0;
+    while i < totals.len() {
+        used = put_total(totals[i], used, &mut text);
+        i += 1;
+    }
+    let all = put_total(held as u64, used, &mut text);
+    io::write_all(3, prefix(&text, all));
+}

@@ -5,8 +5,8 @@ use mathlib.Core.Path.{_≡_}
 use mathlib.Core.Bool.{Bool, true, false}
 use mathlib.Core.List.{List, _++_}
 use lib.ListN.{length, length-append}
-use Rattle.listing.specs.Text.{hexOf, blank, newline, pageOf, decimalOf, lineOf, countsOf, takenWord, skippedWord, heldWord}
-use Rattle.listing.specs.Theorems.{LineLongest, CountsLongest}
+use Rattle.listing.specs.Text.{hexOf, blank, newline, pageOf, decimalOf, lineOf, countsOf, takenWord, skippedWord, heldWord, totalOf}
+use Rattle.listing.specs.Theorems.{LineLongest, CountsLongest, TotalLongest}
 use Rattle.listing.proofs.Decimals.{byte-digits, word-digits}
 
 page-longest : (saved : Bool) → length (pageOf saved) ≤ 5
@@ -31,3 +31,7 @@ unfolding countsOf
 counts-longest taken skipped held h k l =
     rw (count-parts takenWord (decimalOf taken) skippedWord (decimalOf skipped) heldWord (decimalOf held) newline)
     (omega (arith, word-digits taken h, word-digits skipped k, word-digits held l))
+
+pub total-longest : TotalLongest
+unfolding totalOf
+total-longest n h = rw length-append (omega (arith, word-digits n h))

@@ -9,7 +9,7 @@ use lib.Seq.{sets-eq, paste, take-length, take-at, drop-at, drop-drop, length-ta
 use borrow.Author.Tests.{lt-ltb, le-ltb}
 use Rattle.message.specs.Write.{Writing, writingOf}
 use Rattle.listing.specs.Put.{Put}
-use Rattle.listing.specs.Text.{hexDigit, hexOf, blank, newline, pageOf, decimalOf, lineOf, countsOf, takenWord, skippedWord, heldWord}
+use Rattle.listing.specs.Text.{hexDigit, hexOf, blank, newline, pageOf, decimalOf, lineOf, countsOf, takenWord, skippedWord, heldWord, totalOf}
 
 -- A buffer that is its first bytes, the text, and its rest.
 pub put-between : (room : List ℕ) (at : ℕ) (text after : List ℕ) → at + length text ≤ length room
@@ -78,6 +78,10 @@ unfolding countsOf
 counts-put taken skipped held x y z r l₀ l₁ l₂ l₃ l₄ p q s t =
     let e = joined takenWord (decimalOf taken) skippedWord (decimalOf skipped) heldWord (decimalOf held) newline in
     rw e at (put-then (put-then (put-then p q) s) t)
+
+pub total-put : (n x r : ℕ) (l₀ l₁ l₂ : List ℕ) → Put 0 (decimalOf n) l₀ l₁ x → Put x newline l₁ l₂ r → Put 0 (totalOf n) l₀ l₂ r
+unfolding totalOf
+total-put n x r l₀ l₁ l₂ p q = put-then p q
 
 -- A text that was put to a buffer's front is what is written of it.
 pub front-written : (w : Writing) (text room before after : List ℕ) (n : ℕ) → Put 0 text before after n

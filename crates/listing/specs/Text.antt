@@ -59,6 +59,10 @@ skippedWord = 32 ∷ 115 ∷ 107 ∷ 105 ∷ 112 ∷ 112 ∷ 101 ∷ 100 ∷ 32 
 abbrev pub heldWord : List ℕ
 heldWord = 32 ∷ 104 ∷ 101 ∷ 108 ∷ 100 ∷ 32 ∷ []
 
+-- Request 13: a total for service, on a line of its own.
+unfoldable pub totalOf : ℕ → List ℕ
+totalOf n = decimalOf n ++ newline
+
 -- `taken 19 skipped 1 held 0`
 unfoldable pub countsOf : ℕ → ℕ → ℕ → List ℕ
 countsOf taken skipped held = takenWord ++ decimalOf taken ++ skippedWord ++ decimalOf skipped ++ heldWord ++ decimalOf held ++ newline

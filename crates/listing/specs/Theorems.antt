@@ -5,7 +5,7 @@ use mathlib.Core.Bool.{Bool, cond}
 use mathlib.Core.List.{List, [], _∷_}
 use lib.Dec.{ltb}
 use lib.ListN.{length, getD}
-use Rattle.listing.specs.Text.{hexDigit, decimalOf, lineOf, countsOf}
+use Rattle.listing.specs.Text.{hexDigit, decimalOf, lineOf, countsOf, totalOf}
 
 -- What decimal digits stand for, read from the first: each makes ten of what came before it.
 unfoldable pub valueFrom : ℕ → List ℕ → ℕ
@@ -30,7 +30,7 @@ hexValue d = cond (ltb d 65) (d - 48) (d - 55)
 abbrev pub HexBack : Type 0
 HexBack = (b : ℕ) → b < 256 → 16 * hexValue (hexDigit (b / 16)) + hexValue (hexDigit (b % 16)) ≡ b
 
--- A line is at most 16 bytes long, and the counts are at most 82.
+-- A line is at most 16 bytes long, the counts are at most 82, and a total at most 21.
 abbrev pub LineLongest : Type 0
 LineLongest = (kind echo error : ℕ) (saved : Bool) → error < 256 → length (lineOf kind echo error saved) ≤ 16
 
@@ -38,3 +38,6 @@ abbrev pub CountsLongest : Type 0
 CountsLongest =
     (taken skipped held : ℕ) → taken < 18446744073709551616 → skipped < 18446744073709551616 → held < 18446744073709551616
     → length (countsOf taken skipped held) ≤ 82
+
+abbrev pub TotalLongest : Type 0
+TotalLongest = (n : ℕ) → n < 18446744073709551616 → length (totalOf n) ≤ 21

@@ -1,11 +1,11 @@
-// The writers: the heading, a line, the counts.
+// The writers: the heading, a line, the counts, a total.
 ghost use Prim.Native.Nat.{_≤_, _+_};
 ghost use mathlib.Core.Path.{_≡_};
 ghost use mathlib.Core.List.{_++_};
 ghost use lib.ListN.{length};
 ghost use Rattle.message.specs.Write.{writingOf};
 ghost use Rattle.listing.specs.Put.{Put};
-ghost use Rattle.listing.specs.Text.{blank, newline, pageOf, decimalOf, heading, lineOf, countsOf};
+ghost use Rattle.listing.specs.Text.{blank, newline, pageOf, decimalOf, heading, lineOf, countsOf, totalOf};
 use crate::put::put_code;
 use crate::put::put_decimal;
 use crate::put::put_text;
@@ -17,6 +17,9 @@ pub const LONGEST_LINE: usize = 16;
 
 // The longest line of counts: three numbers of 20 digits, their names, and what stands between them.
 pub const LONGEST_COUNTS: usize = 82;
+
+// The longest line of a total: a number of 20 digits.
+pub const LONGEST_TOTAL: usize = 21;
 
 pub fn write_heading(room: &mut [u8]) -> Written
     ensures { λ r. ⌜ record { answer = r; room = now (room .exit) } ≡ writingOf heading (now (room .entry)) ⌝ }
@@ -80,4 +83,21 @@ pub fn write_counts(taken: u64, skipped: u64, held: usize, room: &mut [u8]) -> W
     let mut line = [0u8; LONGEST_COUNTS];
     let n = put_counts(taken, skipped, held as u64, &mut line);
     write_bytes(&line[0..n], room)
+}
+
+fn put_total(n: u64, line: &mut [u8]) -> usize
+    requires { ⌜ 21 ≤ length (now line) ⌝ }
+    ensures { λ r. ⌜ Put 0 (totalOf n) (now (line .entry)) (now (line .exit)) r ⌝ }
+{
+    let a = put_decimal(n, 0, line);
+    put_text(b"\n", a, line)
+}
+
+// A total of a port, on a line of its own.
+pub fn write_total(n: u64, room: &mut [u8]) -> Written
+    ensures { λ r. ⌜ record { answer = r; room = now (room .exit) } ≡ writingOf (totalOf n) (now (room .entry)) ⌝ }
+{
+    let mut line = [0u8; LONGEST_TOTAL];
+    let a = put_total(n, &mut line);
+    write_bytes(&line[0..a], room)
 }

@@ -1,6 +1,7 @@
 // The board that the lines of a script go on with, and its page.
 ghost use Prim.Native.Nat.{_≤_};
 use crate::output::Output;
+use crate::tallies;
 use crate::text;
 use crate::text::MOST;
 use board::Board;
@@ -10,6 +11,7 @@ use board::Started;
 use board::StartedInPlace;
 use board::Stepped;
 use command::Settings;
+use totals::Tally;
 
 // The page has the first `length` of the bytes, so that it can be one of more than 64 bytes too.
 pub struct Bench {
@@ -56,27 +58,35 @@ impl Bench {
         let first = board.first;
         let second = board.second;
         let readonly = board.readonly;
+        let tally0 = board.tally0;
+        let tally1 = board.tally1;
         self.with_board(Board {
             first,
             second,
             settings,
             readonly,
+            tally0,
+            tally1,
         })
     }
 
-    // Port 0, or the other one.
-    pub(crate) fn with_port(self, number: u8, port: Port) -> Self {
+    // Port 0, or the other one, and its totals.
+    pub(crate) fn with_port(self, number: u8, port: Port, tally: Tally) -> Self {
         let board = self.board;
         let settings = board.settings;
         let first = board.first;
         let second = board.second;
         let readonly = board.readonly;
+        let tally0 = board.tally0;
+        let tally1 = board.tally1;
         if number == 0 {
             return self.with_board(Board {
                 first: port,
                 second,
                 settings,
                 readonly,
+                tally0: tally,
+                tally1,
             });
         }
         self.with_board(Board {
@@ -84,7 +94,18 @@ impl Bench {
             second: port,
             settings,
             readonly,
+            tally0,
+            tally1: tally,
         })
+    }
+
+    pub(crate) fn tally(self, number: u8) -> Tally {
+        let board = self.board;
+        if number == 0 {
+            board.tally0
+        } else {
+            board.tally1
+        }
     }
 
     pub(crate) fn port(self, number: u8) -> Port {
@@ -117,6 +138,24 @@ impl Bench {
         FeedStep { fed, bench }
     }
 
+    // Whether a driver's record of the port, updated from what a call answered, has the totals that the board has after it.
+    pub(crate) fn agrees_in_record(self, port: u8, step: FeedStep) -> bool {
+        let fed = step.fed;
+        let after = step.bench;
+        let before = self.port(port);
+        let left = after.port(port);
+        let kept = self.tally(port);
+        let counted = kept.counted(
+            fed.number,
+            fed.taken,
+            fed.skipped,
+            fed.error,
+            before.held,
+            left.held,
+        );
+        tallies::same(counted, after.tally(port))
+    }
+
     // Whether a call in place answers and leaves what the call by value did, which gave `step` and left `room`.
     pub(crate) fn agrees_in_place(
         self,
@@ -130,11 +169,22 @@ impl Bench {
         let mut array = named.bytes;
         let mut replies = [0xEEu8; MOST];
         let mut page = self.bytes;
+        let mut totals = tallies::row_of(self.tally(port));
         let n = room.len();
-        let s = self.call_in_place(port, quiet, chunk, &mut array, &mut replies, n, &mut page);
+        let s = self.call_in_place(
+            port,
+            quiet,
+            &mut totals,
+            chunk,
+            &mut array,
+            &mut replies,
+            n,
+            &mut page,
+        );
         let after = step.bench;
         let left = after.port(port);
         same_answer(s, step.fed, left.held)
+            && tallies::same(tallies::tally_of(totals), after.tally(port))
             && text::same(&array, &left.bytes)
             && text::same(text::prefix(&replies, n), room)
             && text::same(&page, &after.bytes)
@@ -145,6 +195,7 @@ impl Bench {
         self,
         port: u8,
         quiet: bool,
+        totals: &mut [u64],
         chunk: &[u8],
         bytes: &mut [u8],
         room: &mut [u8],
@@ -163,7 +214,9 @@ impl Bench {
         let replies = &mut room[0..r];
         let saved = &mut page[0..p];
         if quiet && chunk.len() == 0 {
-            return board::silence_in_place(port, bytes, first, second, w, readonly, replies, saved);
+            return board::silence_in_place(
+                port, bytes, first, second, w, readonly, totals, replies, saved,
+            );
         }
         board::call_in_place(
             port,
@@ -173,13 +226,14 @@ impl Bench {
             w,
             readonly,
             quiet,
+            totals,
             chunk,
             replies,
             saved,
         )
     }
 
-    // Feeds a message to a port as if it held nothing. Both ports stay as they are: only the settings and the page go on.
+    // Feeds a message to a port as if it held nothing. Both ports stay as they are: only the settings, the port's totals and the page go on.
     pub(crate) fn feed_alone(
         self,
         port: u8,
@@ -187,12 +241,14 @@ impl Bench {
         room: &mut [u8],
         n: usize,
     ) -> FeedStep {
-        let step = self.with_port(port, Port::new())
+        let tally = self.tally(port);
+        let step = self.with_port(port, Port::new(), tally)
             .feed(port, message, room, n);
         let fed = step.fed;
         let after = step.bench;
         let held = self.port(port);
-        let bench = after.with_port(port, held);
+        let counted = after.tally(port);
+        let bench = after.with_port(port, held, counted);
         FeedStep { fed, bench }
     }
 
@@ -264,6 +320,7 @@ fn same_answer(s: Stepped, fed: Fed, held: usize) -> bool {
     s.number == fed.number
         && s.taken == fed.taken
         && s.skipped == fed.skipped
+        && s.error == fed.error
         && s.saved == fed.saved
         && s.held == held
         && same_settings(s.settings, board.settings)

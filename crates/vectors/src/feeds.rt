@@ -4,7 +4,7 @@ use crate::bench::Bench;
 use crate::bench::FeedStep;
 use crate::bench::Told;
 use crate::output::Output;
-use crate::streams;
+use crate::tallies;
 use crate::text;
 use crate::text::MOST;
 use crate::text::Number;
@@ -30,8 +30,7 @@ pub(crate) fn outcome(verb: &[u8], args: &[u8], bench: Bench, out: Output) -> To
     if text::same(verb, b"port") {
         return show(args, bench, out);
     }
-    let told = streams::outcome(verb, args, out);
-    Told { bench, out: told }
+    tallies::outcome(verb, args, bench, out)
 }
 
 // A Ping, which a silence must not look at.
@@ -71,7 +70,8 @@ fn feed(args: &[u8], bench: Bench, out: Output) -> Told {
     let step = bench.feed(port, s, &mut room, length);
     let replies = text::prefix(&room, length);
     let same = bench.agrees_in_place(port, false, s, step, replies);
-    say_step(step, replies, same, bench, out)
+    let told = say_step(step, replies, same, bench, out);
+    say_counted(told, bench.agrees_in_record(port, step), step.fed, replies)
 }
 
 fn silence(args: &[u8], bench: Bench, out: Output) -> Told {
@@ -84,7 +84,8 @@ fn silence(args: &[u8], bench: Bench, out: Output) -> Told {
     let replies = text::prefix(&room, length);
     let same = bench.agrees_in_place(port, true, b"", step, replies)
         && bench.agrees_in_place(port, true, &UNREAD, step, replies);
-    say_step(step, replies, same, bench, out)
+    let told = say_step(step, replies, same, bench, out);
+    say_counted(told, bench.agrees_in_record(port, step), step.fed, replies)
 }
 
 // Where the calls in place agree, nothing is said of them.
@@ -100,6 +101,33 @@ fn say_step(step: FeedStep, room: &[u8], same: bool, before: Bench, out: Output)
             told.text(b", in place differs")
         },
     }
+}
+
+// Where a driver's record agrees, and the error told is the first in the reply, nothing is said of them.
+fn say_counted(step: Told, same: bool, fed: Fed, room: &[u8]) -> Told {
+    let bench = step.bench;
+    let out = step.out;
+    let told = if same {
+        out
+    } else {
+        out.text(b", record differs")
+    };
+    Told {
+        bench,
+        out: if fed.error == first_error(fed.number, room) {
+            told
+        } else {
+            told.text(b", error differs")
+        },
+    }
+}
+
+// The first error in the reply at the room's front.
+fn first_error(number: u8, room: &[u8]) -> u8 {
+    if number != 0 {
+        return 0;
+    }
+    if room.len() < 8 { 0 } else { room[7] }
 }
 
 fn say_fed(fed: Fed, out: Output) -> Output {
@@ -141,8 +169,9 @@ fn hold(args: &[u8], bench: Bench, out: Output) -> Told {
     }
     let port = Port { bytes, held };
     let told = out.decimal(n as u64).text(b" bytes");
+    let tally = bench.tally(number);
     Told {
-        bench: bench.with_port(number, port),
+        bench: bench.with_port(number, port, tally),
         out: told,
     }
 }

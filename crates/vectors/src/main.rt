@@ -12,6 +12,7 @@ mod samples;
 mod scans;
 mod script;
 mod streams;
+mod tallies;
 mod text;
 
 fn main() {
