@@ -33,7 +33,7 @@ pub record Feeding : Type 0 where
 
 -- ---- refusals
 
--- A port holds over 260, or a working value is not usable.
+-- A port holds over 260, or a working value is not usable. Any totals are sound.
 unfoldable pub unsound : ℕ → ℕ → Settings → Bool
 unsound first second w = ltb portRoom first || ltb portRoom second || not (settingsUsable w)
 
@@ -109,7 +109,7 @@ stepBy rights held w i room page = stepOn rights (soughtBy front i held) held w 
 abbrev pub stepAt : Rights → Bool → List ℕ → Settings → List ℕ → List ℕ → List ℕ → PortStep
 stepAt rights quiet held w chunk room page = stepOn rights (seek (upTo (endOf quiet) front) (held ++ chunk)) held w chunk room page
 
--- The totals of its port after it (`CountedHistory` and demand 3 say what they count).
+-- The totals of its port after it, updated as a driver updates its record (what they count: `CountsHistories`, and demand 3).
 abbrev pub tallyAfter : PortStep → ℕ → Board → Tally
 tallyAfter s port b = countedOf (tallyAt port b) (s .number) (s .taken) (s .skipped) (s .error) (portOf port b .held) (length (s .held))
 

@@ -1,4 +1,4 @@
--- Document 01, "The scan": a port holds at most 260 bytes of an undecided message or of bytes not yet looked at.
+-- Document 01, "The scan", and request 13: a port holds at most 260 bytes of an undecided message or of bytes not yet looked at.
 use Prim.Native.Nat.{ℕ, zero, suc, _-_}
 use mathlib.Core.List.{List, _++_}
 use lib.ListN.{length, take, replicate}

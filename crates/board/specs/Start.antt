@@ -24,7 +24,8 @@ factorySettings = record { baud = factoryValue Baud; accelerometer = factoryValu
 abbrev pub freshBoard : Profile → Settings → Board
 freshBoard profile w = record { first = freshPort; second = freshPort; settings = w; readonly = profile; tally0 = zeroTally; tally1 = zeroTally }
 
--- Starting tests 19, 20. A refusal returns the factory settings and two fresh ports. "A refused start keeps the profile asked for."
+-- Starting tests 19, 20. A refusal returns the factory settings and two fresh ports, and totals of zero. "A refused start keeps the profile
+-- asked for."
 abbrev pub startOn : ℕ → Profile → List ℕ → Started
 startOn zero profile page = record { number = 0; board = freshBoard profile (settingsFrom page) }
 startOn (suc n) profile page = record { number = suc n; board = freshBoard profile factorySettings }

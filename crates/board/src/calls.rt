@@ -10,17 +10,18 @@ ghost use Rattle.board.specs.Feed.{inputOf, stepAt, feedOn, callOf, feed
 ghost use Rattle.board.specs.Place.{namedHeld, placeBy, placeOf, silencePlaceOf};
 use crate::board::Board;
 use crate::board::Fed;
+use crate::counting::add_call;
 use crate::feeding::Stepped;
 use crate::feeding::feed_number;
 use crate::feeding::place_number;
 use crate::feeding::step;
 use crate::feeding::step_port;
 use command::Settings;
-use totals::add_call;
 
 // The bytes that a call brings: none where the line has gone quiet.
 fn brought(quiet: bool, chunk: &[u8]) -> usize
     ensures { λ r. ⌜ r ≡ length (chunkOf (inputOf quiet (now (chunk .entry)))) ⌝ }
+    // no slice is so long that a port's bytes more would not fit
     ensures { λ r. ⌜ r + 260 < 18446744073709551616 ⌝ }
 {
     if quiet { 0 } else { chunk.len() }
@@ -140,7 +141,7 @@ fn held_of(port: u8, first: usize, second: usize) -> usize
     if port == 0 { first } else { second }
 }
 
-// An accepted call of a sound board's first port, in its place: the second port is not touched.
+// An accepted call of a sound board's first port, in its place: the second port and its totals are not touched.
 fn call_first(
     port: u8,
     mut board: Board,
@@ -183,7 +184,7 @@ fn call_first(
     }
 }
 
-// One of its second port: the first is not touched.
+// One of its second port: the first and its totals are not touched.
 fn call_second(
     port: u8,
     mut board: Board,

@@ -1,7 +1,8 @@
-// The board: two ports that hold unread bytes, the working settings, the profile, starting, feeding and silences. The definitions that the
+// The board: two ports that hold unread bytes, with their totals, the working settings, the profile, starting, feeding and silences. The definitions that the
 // contracts cite stand in specs/.
 mod board;
 mod calls;
+mod counting;
 mod feeding;
 mod keep;
 mod port;

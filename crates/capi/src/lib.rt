@@ -1,5 +1,6 @@
 // The library's calls for C and Rust: each under its plain name, on numbers, slices (pointer, then length) and structs of
-// fixed layout by value. No call trusts an argument: what is not in order is answered by a number of document 01. What a
+// fixed layout by value; a driver's tally record alone is lent by a pointer. No call trusts an argument: what is not in order is answered
+// by a number of document 01, and the record takes any. What a
 // caller must see to stands at the top of include/ketphiroj.h: pointers that hold, and slices that do not overlap where one of
 // them is written.
 mod counting;

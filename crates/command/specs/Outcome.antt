@@ -58,7 +58,8 @@ replyOf kind o = messageOf kind (o .rows)
 abbrev pub replyRow : ℕ → ℕ → List ℕ → List ℕ
 replyRow echo error row = 0x80 ∷ 0x02 ∷ echo ∷ error ∷ row
 
--- The first error in a reply: that of its first row, behind the four bytes of the header; 0 where there is no reply.
+-- The first error in a reply: that of its first row, which stands behind the four bytes of the header, 80, 02 and the echo; 0 where there is
+-- no reply.
 abbrev pub errorIn : List ℕ → ℕ
 errorIn reply = getD reply 7 0
 

@@ -157,7 +157,8 @@ fn seal(kind: u8, n: usize, room: &mut [u8])
     message::seal_message(kind, n, room);
 }
 
-// The first error in the reply at the room's front.
+// The first error in the reply at the room's front. It is read where the room is at hand: kept from the first row on, it would take
+// stack in every call.
 fn error_in(room: &[u8]) -> u8
     ensures { λ r. ⌜ r ≡ errorIn (now (room .entry)) ⌝ }
 {

@@ -7,7 +7,8 @@ use mathlib.Core.List.{List, [], _∷_}
 use lib.ListN.{length, getD, set, drop, length-set, length-drop}
 use lib.Seq.{set-out}
 use Rattle.totals.specs.declared.Tally.{Tally}
-use Rattle.totals.specs.Tally.{plusUpTo, goodBytes, errorsAfter, unlessRefused, countedWith, countedOf, rowOf, tallyIn, plusAt}
+use Rattle.totals.specs.Tally.{plusUpTo, goodBytes, errorsAfter, unlessRefused, countedWith, countedOf, rowOf, tallyIn}
+use Rattle.totals.specs.Row.{plusAt}
 
 module _ (total n : ℕ) where
   pub sum-fits : n ≤ 18446744073709551615 - total → total < 18446744073709551616 → total + n ≡ plusUpTo total n

@@ -1,4 +1,4 @@
--- Request 13: what is counted of a port since its start, and the totals that stand for the counts.
+-- Request 13: what is counted of a port since the start, and the totals that stand for the counts.
 use mathlib.Core.Bool.{Bool, true, false}
 use mathlib.Core.List.{List, [], _∷_, _++_}
 use mathlib.Core.Path.{_≡_}
@@ -22,11 +22,11 @@ pub record Counts : Type 0 where
 abbrev pub noCounts : Counts
 noCounts = record { taken = 0; skipped = 0; good = 0; errors = [] }
 
--- How often a number stands in a list.
 abbrev pub oneIf : Bool → ℕ
 oneIf true = 1
 oneIf false = 0
 
+-- How often a number stands in a list.
 abbrev pub times : ℕ → List ℕ → ℕ
 times e [] = 0
 times e (x ∷ xs) = oneIf (eqb x e) + times e xs

@@ -61,7 +61,3 @@ rowOf t = t .taken ∷ t .skipped ∷ t .good ∷ t .errors
 
 abbrev pub tallyIn : List ℕ → Tally
 tallyIn row = record { taken = getD row 0 0; skipped = getD row 1 0; good = getD row 2 0; errors = drop 3 row }
-
--- A row with n more at one place.
-unfoldable pub plusAt : ℕ → ℕ → List ℕ → List ℕ
-plusAt at n row = set row at (plusUpTo (getD row at 0) n)

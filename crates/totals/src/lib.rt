@@ -1,8 +1,7 @@
-// The totals of a port since its start: in the board, and in a driver's tally record.
+// The totals of a port since the start: in the board, and in a driver's tally record.
 ghost use mathlib.Core.Path.{_≡_};
-ghost use lib.ListN.{length};
-ghost use Prim.Native.Nat.{_+_, _-_, _≤_, _<_};
-ghost use Rattle.totals.specs.Tally.{plusUpTo, zeroTally, countedWith, goodBytes, countedOf, rowOf, tallyIn, plusAt};
+ghost use Prim.Native.Nat.{_-_};
+ghost use Rattle.totals.specs.Tally.{plusUpTo, zeroTally, goodBytes, countedOf};
 
 // Each total stops at its largest figure.
 #[repr(C)]
@@ -16,7 +15,7 @@ pub struct Tally {
 }
 
 // The sum, or the largest figure where it does not fit.
-fn plus_up_to(total: u64, n: usize) -> u64
+pub fn plus_up_to(total: u64, n: usize) -> u64
     ensures { λ r. ⌜ r ≡ plusUpTo total n ⌝ }
 {
     let more = n as u64;
@@ -35,7 +34,8 @@ fn excess(x: usize, y: usize) -> usize
 }
 
 // A total with the good bytes of a call more: taken plus before, less skipped, less after, at least 0. They are made of differences alone,
-// in two parts of which one is 0, since of what a driver passes a sum might not fit.
+// since of what a driver passes a sum might not fit: what was taken beyond the skipped, and what was held before beyond what is held
+// after, each less what the other lacks.
 fn plus_good(total: u64, taken: usize, skipped: usize, before: usize, after: usize) -> u64
     ensures { λ r. ⌜ r ≡ plusUpTo total (goodBytes taken skipped before after) ⌝ }
 {
@@ -61,7 +61,7 @@ impl Tally {
     }
 
     // The totals after a call that answered `number`, took and skipped so many bytes and whose reply has the first error `error`; its port
-    // held `before` bytes before it and `after` behind it.
+    // held `before` bytes before it and `after` bytes after it.
     pub fn counted(
         self,
         number: u8,
@@ -88,38 +88,5 @@ impl Tally {
             }
         }
         t
-    }
-}
-
-// Adds to one total of a row.
-fn add_to(totals: &mut [u64], at: usize, n: usize)
-    requires { ⌜ at < length (now totals) ⌝ }
-    ensures { λ _. ⌜ now (totals .exit) ≡ plusAt at n (now (totals .entry)) ⌝ }
-{
-    let total = totals[at];
-    totals[at] = plus_up_to(total, n);
-}
-
-// Adds a call that was accepted to totals that are lent as a row: those of bytes, then those of messages by error. It is for the board
-// itself, whose calls add up: what is behind a call was held before it or taken.
-pub fn add_call(
-    totals: &mut [u64],
-    number: u8,
-    taken: usize,
-    skipped: usize,
-    error: u8,
-    before: usize,
-    after: usize,
-)
-    requires { ⌜ (length (now totals) ≡ 11) × (number ≤ 1) × (skipped + after ≤ taken + before) × (taken + before < 18446744073709551616) ⌝ }
-    ensures { λ _. ⌜ now (totals .exit) ≡ rowOf (countedOf (tallyIn (now (totals .entry))) number taken skipped error before after) ⌝ }
-{
-    add_to(totals, 0, taken);
-    add_to(totals, 1, skipped);
-    add_to(totals, 2, taken + before - skipped - after);
-    if number == 0 {
-        if error < 8 {
-            add_to(totals, 3 + error as usize, 1);
-        }
     }
 }

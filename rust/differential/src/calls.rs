@@ -2,16 +2,31 @@
 
 use crate::wrapper::Wrapper;
 use ketphiroj::ffi::{self, FlatField, FlatPage, FlatReply, FlatValues, Started, StartedInPlace, Stepped, Written};
-use ketphiroj::Board;
-use plain::{Profile, Reckoned};
+use ketphiroj::{Board, Tally};
+use plain::{Profile, Reckoned, Told};
 
 /// What a feed or a silence answers, and the board afterwards.
 pub struct Fed {
     pub number: u8,
     pub taken: usize,
     pub skipped: usize,
+    pub error: u8,
     pub saved: bool,
     pub board: Board,
+}
+
+/// What a call in place is given, as the C interface has it: the named port's bytes and totals, which may be of any lengths, and
+/// the rest of the board.
+pub struct InPlace<'a> {
+    pub port: u8,
+    pub bytes: &'a mut [u8],
+    /// Of it the held counts of both ports, the settings and the profile.
+    pub board: &'a Board,
+    pub quiet: bool,
+    pub totals: &'a mut [u64],
+    pub chunk: &'a [u8],
+    pub room: &'a mut [u8],
+    pub page: &'a mut [u8],
 }
 
 /// What the writer of one field is given beside the payload.
@@ -34,9 +49,23 @@ pub struct NumberedGiven {
 
 impl Fed {
     fn new(stepped: Stepped, board: Board) -> Fed {
-        let Stepped { number, taken, skipped, saved, .. } = stepped;
-        Fed { number, taken, skipped, saved, board }
+        let Stepped { number, taken, skipped, error, saved, .. } = stepped;
+        Fed { number, taken, skipped, error, saved, board }
     }
+}
+
+/// A feed or a silence of arrays of any lengths.
+pub fn call_in_place(given: &mut InPlace) -> Stepped {
+    let InPlace { port, bytes, board, quiet, totals, chunk, room, page } = given;
+    let Board { first, second, settings, readonly, .. } = board;
+    let (first, second) = (first.held, second.held);
+    ffi::call_in_place(*port, bytes, first, second, *settings, *readonly, *quiet, totals, chunk, room, page)
+}
+
+/// The driver's record of a call.
+pub fn count(tally: &mut Tally, told: &Told) {
+    let Told { number, taken, skipped, error, before, after } = *told;
+    ffi::count(tally, number, taken, skipped, error, before, after)
 }
 
 /// Feeds a copy of a board.
@@ -65,6 +94,14 @@ pub trait Calls: Wrapper {
 
     fn silence(&self, port: u8, board: Board, room: &mut [u8], page: &mut [u8]) -> Fed {
         silence(port, board, room, page)
+    }
+
+    fn call_in_place(&self, given: &mut InPlace) -> Stepped {
+        call_in_place(given)
+    }
+
+    fn count(&self, tally: &mut Tally, told: &Told) {
+        count(tally, told)
     }
 
     fn check_message(&self, message: &[u8]) -> u8 {

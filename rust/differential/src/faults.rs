@@ -1,16 +1,17 @@
 //! Planted faults: the library, its wrapper, or what the reckoning is compared with, with one answer changed in one case.
 //! Each must be found, or the comparison cannot fail.
 
-use crate::calls::{self, Calls, Fed, FieldGiven, NumberedGiven};
+use crate::calls::{self, Calls, Fed, FieldGiven, InPlace, NumberedGiven};
+use crate::counting::{self, Last};
 use crate::folds::{refold, Before};
 use crate::lenient;
 use crate::ranging;
 use crate::rights;
 use crate::silencing;
 use crate::wrapper::Wrapper;
-use ketphiroj::ffi::{self, FlatField, FlatPage, FlatReply, FlatValues, Started, StartedInPlace, Written};
-use ketphiroj::{Board, Field, Outcome, Port, Profile, Refusal, Reply, Settings, Values, PAGE};
-use plain::Reckoned;
+use ketphiroj::ffi::{self, FlatField, FlatPage, FlatReply, FlatValues, Started, StartedInPlace, Stepped, Written};
+use ketphiroj::{Board, Field, Outcome, Port, Profile, Refusal, Reply, Settings, Tally, Values, PAGE};
+use plain::{Reckoned, Told};
 use std::cell::Cell;
 
 /// A fault. The table in main.rs has the group of cases that is to find it.
@@ -38,6 +39,8 @@ pub enum Fault {
     // Found in the comparison with the reckoning.
     ReckonedSkipped,
     ReckonedHeld,
+    ReckonedError,
+    ReckonedTotals,
     // Found in single feeds.
     SizeBeforeCode,
     SentValueSaved,
@@ -304,6 +307,72 @@ pub enum Fault {
     SkippedOfOtherPort,
     PlainIsFull,
     BothAreFull,
+    // Found in the totals: how one grows, where it stops, and whether it has a part in what is answered.
+    TotalWraps,
+    TotalReset,
+    TotalStopsShort,
+    TotalOf32Bits,
+    TotalLeavesOut,
+    TotalsStopTogether,
+    LargestTotalUnsound,
+    // What is counted in them, and where.
+    SkippedAsTaken,
+    DamagedAsGood,
+    DamagedSkippedWhole,
+    OnlyObeyedAsGood,
+    GoodWithoutHeld,
+    SecondErrorCounted,
+    EachRowCounted,
+    LargestErrorCounted,
+    Error7Uncounted,
+    UsedUpCounted,
+    RefusedCounted,
+    OtherPortCounted,
+    BothPortsCounted,
+    SilenceUncounted,
+    SilenceCountedAsTaken,
+    // Since when.
+    TotalsKeptOverStart,
+    TotalsKeptOverRefusedStart,
+    SecondTotalsKept,
+    // The error that a call tells.
+    ErrorUntold,
+    ErrorOfLastRow,
+    ErrorOfLastCall,
+    RefusalTellsError,
+    SilenceErrorUntold,
+    // Found in the driver's record: how its totals grow.
+    RecordWraps,
+    RecordReset,
+    RecordedErrorWraps,
+    // The good bytes.
+    GoodWraps,
+    GoodSumWraps,
+    GoodSumStops,
+    GoodInTwoParts,
+    GoodOfTakenAlone,
+    GoodWithNumber0Alone,
+    HeldCountsSwapped,
+    // Which numbers and errors count.
+    RecordedErrorOf1,
+    RefusalRecorded,
+    RefusalRecordedWhole,
+    Number2Recorded,
+    Error8As7,
+    ErrorOf3Bits,
+    Error8Uncounted,
+    RecordWithoutError0,
+    // Found in rows of totals that are not of their length.
+    LongerRowTaken,
+    ShorterRowTaken,
+    NoRowTaken,
+    RowBeforePort,
+    RowBehindRoom,
+    WrongRowCleared,
+    WrongRowClearsPort,
+    WrongRowWritesRoom,
+    WrongRowForgetsHeld,
+    WrongArrayClearsRow,
     // Found in starts in place.
     SecondPortKept,
     LastByteKept,
@@ -336,11 +405,22 @@ pub enum Fault {
     WrappedBoard,
     WrappedRoom,
     WrappedPage,
+    WrappedErrorLost,
+    WrappedTotalsLost,
+    WrappedTallyOfOther,
+    WrappedTallyOfNone,
+    WrappedCountAsReported,
+    WrappedCountOfRefusal,
+    WrappedCountWithoutError,
+    WrappedCountSwaps,
     WrappedSilence,
     WrappedSilenceMark,
+    WrappedSilenceError,
     WrappedSilenceBoard,
     WrappedStart,
     WrappedStartInPlace,
+    WrappedTotalsKept,
+    WrappedRefusedTotalsKept,
     WrappedProfileIgnored,
     WrappedProfileKept,
     WrappedProfileTold,
@@ -365,16 +445,28 @@ pub enum Fault {
     WrappedFactoryPage,
 }
 
-/// The fault, planted; and whether the board that was started last is read-only, for a fault that keeps that beside the boards.
-pub struct Planted(Fault, Cell<bool>);
+/// The fault, planted; and for a fault that keeps that beside the boards, whether the board that was started last is read-only, and
+/// what the last call left.
+pub struct Planted(Fault, Cell<bool>, Cell<Last>);
 
 impl Planted {
     pub fn new(fault: Fault) -> Planted {
-        Planted(fault, Cell::new(false))
+        Planted(fault, Cell::new(false), Cell::new(Last::default()))
     }
 
     fn is(&self, fault: Fault) -> bool {
         self.0 == fault
+    }
+
+    /// What a call counts and tells, with the fault in it.
+    fn counted(&self, before: &Before, mut fed: Fed, room: &[u8]) -> Fed {
+        let error = fed.error;
+        counting::change_totals(self.0, before, &mut fed, room);
+        counting::change_error(self.0, self.2.get(), &mut fed, room);
+        // What is not reported leaves the last error as it was.
+        let error = if fed.number == 0 { error } else { self.2.get().error };
+        self.2.set(Last { tallies: [fed.board.tally0, fed.board.tally1], error });
+        fed
     }
 
     /// The wrapper's result. Where this fault is planted, a refusal is told as the next one.
@@ -403,6 +495,7 @@ impl Calls for Planted {
             (Fault::StartOnOldPageRefused, Some(_)) => return ffi::start(readonly, &[0; 64]),
             _ => {}
         }
+        counting::started(self.0, self.2.get(), &mut started);
         started
     }
 
@@ -444,12 +537,12 @@ impl Calls for Planted {
             Fault::SentValueSaved if fed.saved && chunk.len() == 10 => save_sent_range(chunk, page),
             Fault::JunkKept if fed.number == 1 && chunk.is_empty() => keep_junk(&mut fed, &board),
             Fault::UnsoundBeforePort if fed.number == 16 && board.first.held > 260 => fed.number = 17,
-            Fault::FeedOnOldPageRefused if fed.number < 16 && old_range(&before.page).is_some() => {
-                refuse(20, &before, &mut fed, room, page)
+            Fault::FeedOnOldPageRefused | Fault::LargestTotalUnsound if fed.number < 16 => {
+                refuse_accepted(self.0, &before, &mut fed, room, page)
             }
             _ => rights::change_answer(self.0, &before, &mut fed),
         }
-        fed
+        self.counted(&before, fed, room)
     }
 
     fn silence(&self, port: u8, board: Board, room: &mut [u8], page: &mut [u8]) -> Fed {
@@ -460,9 +553,17 @@ impl Calls for Planted {
             (Fault::SilenceLosesProfile, 0 | 1) | (Fault::RefusedSilenceLosesProfile, 16..) => {
                 fed.board.readonly = false
             }
-            _ => {}
+            _ => counting::change_silence(self.0, &before, &mut fed),
         }
-        fed
+        self.counted(&before, fed, room)
+    }
+
+    fn call_in_place(&self, given: &mut InPlace) -> Stepped {
+        counting::call_in_place(self.0, given)
+    }
+
+    fn count(&self, tally: &mut Tally, told: &Told) {
+        counting::count(self.0, tally, told)
     }
 
     fn check_message(&self, message: &[u8]) -> u8 {
@@ -609,12 +710,18 @@ impl Calls for Planted {
         if self.is(Fault::ReckonedSkipped) && answer.number == 1 && answer.taken == 0 {
             answer.skipped = 0;
         }
+        if self.is(Fault::ReckonedError) && answer.error == 3 {
+            answer.error = 0;
+        }
         answer
     }
 
     fn board_reckoned(&self, mut board: Board) -> Board {
         if self.is(Fault::ReckonedHeld) && board.second.held > 1 {
             board.second.held -= 1;
+        }
+        if self.is(Fault::ReckonedTotals) && board.tally1.good > 0 {
+            board.tally1.good -= 1;
         }
         board
     }
@@ -639,6 +746,9 @@ impl Wrapper for Planted {
         match (self.0, started) {
             (Fault::WrappedProfileKept, Err(_)) => board.readonly = before.readonly,
             (Fault::WrappedHeldKept, Ok(())) => board.second.held = before.second.held,
+            (Fault::WrappedTotalsKept, Ok(())) | (Fault::WrappedRefusedTotalsKept, Err(_)) => {
+                (board.tally0, board.tally1) = (before.tally0, before.tally1)
+            }
             // As a feed that is refused leaves its board.
             (Fault::WrappedRefusalKept, Err(_)) => *board = before,
             _ => {}
@@ -661,9 +771,12 @@ impl Wrapper for Planted {
         room: &mut [u8],
         page: &mut [u8],
     ) -> Result<Outcome, Refusal> {
+        let tally = board.tally0;
         let mut outcome = board.feed(port, chunk, room, page);
         match (&mut outcome, self.0) {
             (Ok(Outcome::Reported { saved, .. }), Fault::WrappedSaveMark) => *saved = false,
+            (Ok(Outcome::Reported { error, .. }), Fault::WrappedErrorLost) => *error = 0,
+            (Ok(_), Fault::WrappedTotalsLost) => board.tally0 = tally,
             (Ok(Outcome::Reported { saved: true, .. }), Fault::WrappedPage) => page[63] = 0,
             (Ok(Outcome::UsedUp { .. }), Fault::WrappedRoom) => room[0] = 0xA5,
             // A refused feed loses what a port holds.
@@ -683,10 +796,39 @@ impl Wrapper for Planted {
         let mut outcome = self.next_refusal(Fault::WrappedSilence, board.silence(port, room, page));
         match (&mut outcome, self.0) {
             (Ok(Outcome::Reported { saved, .. }), Fault::WrappedSilenceMark) => *saved = false,
+            (Ok(Outcome::Reported { error, .. }), Fault::WrappedSilenceError) => *error = 0,
             (Err(_), Fault::WrappedSilenceBoard) => board.second = Port::new(),
             _ => {}
         }
         outcome
+    }
+
+    fn wrapped_tally(&self, board: &Board, port: u8) -> Option<Tally> {
+        match (self.0, port) {
+            (Fault::WrappedTallyOfOther, 0) => board.tally(1).copied(),
+            (Fault::WrappedTallyOfOther, 1) => board.tally(0).copied(),
+            (Fault::WrappedTallyOfNone, 2..) => board.tally(1).copied(),
+            _ => board.tally(port).copied(),
+        }
+    }
+
+    fn wrapped_count(&self, tally: &mut Tally, answer: &Result<Outcome, Refusal>, before: usize, after: usize) {
+        match (self.0, *answer) {
+            (Fault::WrappedCountAsReported, Ok(Outcome::UsedUp { taken, skipped })) => {
+                tally.count_call(0, taken, skipped, 0, before, after)
+            }
+            (Fault::WrappedCountOfRefusal, Err(_)) => tally.count_call(0, 0, 0, 0, before, after),
+            (Fault::WrappedCountWithoutError, Ok(Outcome::Reported { taken, skipped, .. })) => {
+                tally.count_call(0, taken, skipped, 0, before, after)
+            }
+            _ => tally.count(answer, before, after),
+        }
+    }
+
+    fn wrapped_count_call(&self, tally: &mut Tally, told: &Told) {
+        let Told { number, taken, skipped, error, before, after } = *told;
+        let (taken, skipped) = if self.is(Fault::WrappedCountSwaps) { (skipped, taken) } else { (taken, skipped) };
+        tally.count_call(number, taken, skipped, error, before, after)
     }
 
     fn wrapped_check_message(&self, message: &[u8]) -> Result<(), Refusal> {
@@ -871,11 +1013,16 @@ fn feed_old_board(before: &Before, room: &mut [u8], page: &mut [u8]) -> Fed {
     fed
 }
 
-/// The feed is refused after all.
-fn refuse(number: u8, before: &Before, fed: &mut Fed, room: &mut [u8], page: &mut [u8]) {
+/// An accepted feed is refused after all, where the fault shows.
+fn refuse_accepted(fault: Fault, before: &Before, fed: &mut Fed, room: &mut [u8], page: &mut [u8]) {
+    let number = match fault {
+        Fault::FeedOnOldPageRefused if old_range(&before.page).is_some() => 20,
+        Fault::LargestTotalUnsound if counting::stopped(&before.board) => 17,
+        _ => return,
+    };
     room.copy_from_slice(&before.room);
     page.copy_from_slice(&before.page);
-    *fed = Fed { number, taken: 0, skipped: 0, saved: false, board: before.board };
+    *fed = Fed { number, taken: 0, skipped: 0, error: 0, saved: false, board: before.board };
 }
 
 /// Of a damaged message all is dropped, and not one byte.
@@ -916,7 +1063,7 @@ fn report_type_a5(port: u8, mut board: Board, chunk: &[u8], room: &mut [u8]) -> 
         fed.held = length - 1;
         fed.bytes[..fed.held].copy_from_slice(&message[1..]);
     }
-    Some(Fed { number: 0, taken: length, skipped: usize::from(damaged), saved: false, board })
+    Some(Fed { number: 0, taken: length, skipped: usize::from(damaged), error: reply[7], saved: false, board })
 }
 
 /// A front of A5 A5 alone is taken for one with a stray byte.

@@ -33,7 +33,9 @@ pub fn same_board(library: &Board, plain: &Board) -> Outcome {
     same("held by port 0", &library.first.held, &plain.first.held)?;
     same("held by port 1", &library.second.held, &plain.second.held)?;
     same_bytes("bytes of port 0", &library.first.bytes, &plain.first.bytes)?;
-    same_bytes("bytes of port 1", &library.second.bytes, &plain.second.bytes)
+    same_bytes("bytes of port 1", &library.second.bytes, &plain.second.bytes)?;
+    same("totals of port 0", &library.tally0, &plain.tally0)?;
+    same("totals of port 1", &library.tally1, &plain.tally1)
 }
 
 /// Compares arrays of one length; a difference is told by its first bytes.
@@ -94,7 +96,8 @@ impl<'a> Given<'a> {
         }
     }
 
-    fn wrapped_answer(
+    /// What the wrapper gives.
+    pub fn wrapped_answer(
         self,
         wrapper: &impl Wrapper,
         board: &mut Board,
@@ -118,6 +121,7 @@ pub fn call(calls: &impl Calls, pair: &mut Pair, given: Given) -> Result<(plain:
     same("number", &fed.number, &plain.number)?;
     same("taken", &fed.taken, &plain.taken)?;
     same("skipped", &fed.skipped, &plain.skipped)?;
+    same("error", &fed.error, &plain.error)?;
     same("saved", &fed.saved, &plain.saved)?;
     same("room", &room, &plain_room)?;
     same("page", &pair.page, &plain_page)?;
@@ -139,14 +143,18 @@ pub fn call_wrapped(
     let mut page = before.page.clone();
     let mut wrapped_room = given.room();
     let outcome = given.wrapped_answer(wrapper, &mut board, &mut wrapped_room, &mut page);
-    let (taken, skipped, saved) = (fed.taken, fed.skipped, fed.saved);
+    let plain::Fed { taken, skipped, error, saved, .. } = *fed;
     let expected = match fed.number {
-        0 => Ok(ketphiroj::Outcome::Reported { taken, skipped, saved, reply: usize::from(room[3]) + 6 }),
+        0 => Ok(ketphiroj::Outcome::Reported { taken, skipped, saved, error, reply: usize::from(room[3]) + 6 }),
         1 => Ok(ketphiroj::Outcome::UsedUp { taken, skipped }),
         number => Err(Refusal::from_number(number).ok_or("a number of no refusal")?),
     };
     same("wrapped outcome", &outcome, &expected)?;
     same_board(&board, &after.board).map_err(|text| format!("wrapped: {text}"))?;
+    for port in [0, 1, 2] {
+        let expected = after.plain.tallies.get(usize::from(port)).map(records::tally);
+        same("wrapped totals of a port", &wrapper.wrapped_tally(&board, port), &expected)?;
+    }
     same("wrapped room", &wrapped_room[..], room)?;
     same("wrapped page", &page, &after.page)
 }

@@ -2,6 +2,7 @@
 //! writes what they give over the library's answer.
 
 use crate::calls::Fed;
+use crate::counting::named_tally;
 use crate::faults::Fault;
 use crate::numbering;
 use crate::ranging;
@@ -34,7 +35,7 @@ pub struct Reported {
 
 impl Before<'_> {
     /// Of an accepted feed that answered 0. None where its counts do not lead to a message.
-    fn reported(&self, fed: &Fed) -> Option<Reported> {
+    pub fn reported(&self, fed: &Fed) -> Option<Reported> {
         let port = if self.port == 0 { &self.board.first } else { &self.board.second };
         let row = [port.bytes.get(..port.held)?, self.chunk.get(..fed.taken)?].concat();
         let whole = |place: usize| {
@@ -58,7 +59,8 @@ impl Before<'_> {
     }
 }
 
-/// Where the fault shows in the message that was reported, its outcome instead of the library's.
+/// Where the fault shows in the message that was reported, its outcome instead of the library's. The error that it comes to is
+/// told, and counted.
 pub fn refold(fault: Fault, before: &Before, fed: &mut Fed, room: &mut [u8], page: &mut [u8]) {
     let wrong = |reported: Reported| {
         let handled = reported.wrong(fault).or_else(|| numbering::wrong(fault, &reported));
@@ -72,8 +74,13 @@ pub fn refold(fault: Fault, before: &Before, fed: &mut Fed, room: &mut [u8], pag
     room[..handled.reply.len()].copy_from_slice(&handled.reply);
     page.copy_from_slice(&plain::write_page(&handled.values));
     fed.saved = handled.saved;
-    let plain::Settings { baud, accelerometer, gyroscope } = handled.settings;
-    fed.board.settings = Settings { baud, accelerometer, gyroscope };
+    fed.board.settings = records::settings(handled.settings);
+    fed.error = handled.rows[0].error;
+    let (tally, mut given) = (named_tally(before.port, &mut fed.board), before.board);
+    tally.errors = named_tally(before.port, &mut given).errors;
+    if let Some(counted) = tally.errors.get_mut(usize::from(fed.error)) {
+        *counted = counted.saturating_add(1);
+    }
 }
 
 impl Reported {

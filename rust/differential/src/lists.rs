@@ -68,8 +68,8 @@ impl<C: Calls> Running<'_, C> {
             self.reckoning = None;
         }
         if let Some(reckoning) = &mut self.reckoning {
-            let plain::Fed { number, taken, skipped, saved, .. } = fed;
-            let answer = Reckoned { number, taken, skipped, saved, reply: reply_in(number, &room).to_vec() };
+            let plain::Fed { number, taken, skipped, error, saved, .. } = fed;
+            let answer = Reckoned { number, taken, skipped, error, saved, reply: reply_in(number, &room).to_vec() };
             same("answer and reckoning", &self.calls.answer_reckoned(answer), &reckon(reckoning, given))?;
         }
         Ok(fed.number)
@@ -101,7 +101,7 @@ pub fn reply_in(number: u8, room: &[u8]) -> &[u8] {
     }
 }
 
-/// Profile, settings, held bytes and page as reckoned; past the held bytes a port is zero.
+/// Profile, settings, held bytes, totals and page as reckoned; past the held bytes a port is zero.
 pub fn reckoned_state(reckoning: &Reckoning, board: &Board, page: &[u8]) -> Outcome {
     same("reckoned profile", &board.readonly, &records::readonly(reckoning.profile()))?;
     let settings = reckoning.settings();
@@ -109,11 +109,12 @@ pub fn reckoned_state(reckoning: &Reckoning, board: &Board, page: &[u8]) -> Outc
     same("reckoned accelerometer", &board.settings.accelerometer, &settings.accelerometer)?;
     same("reckoned gyroscope", &board.settings.gyroscope, &settings.gyroscope)?;
     same("reckoned page", page, &reckoning.page()[..])?;
-    for (number, port) in [(0, &board.first), (1, &board.second)] {
+    for (number, port, tally) in [(0, &board.first, &board.tally0), (1, &board.second, &board.tally1)] {
         let mut bytes = reckoning.held(number);
         same("reckoned held", &port.held, &bytes.len())?;
         bytes.resize(260, 0);
         same("reckoned port", &port.bytes[..], &bytes[..])?;
+        same("reckoned totals", tally, &records::tally(&reckoning.totals(number)))?;
     }
     Ok(())
 }

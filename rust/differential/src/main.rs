@@ -6,6 +6,7 @@
 #![forbid(unsafe_code)]
 
 mod calls;
+mod counting;
 mod faults;
 mod feeding;
 mod fields;
@@ -28,6 +29,7 @@ mod runs;
 mod silences;
 mod silencing;
 mod singles;
+mod tallies;
 mod wrapper;
 
 use calls::{Calls, Library};
@@ -91,9 +93,12 @@ enum Group {
     HostileLists,
     TwoRuns,
     ProfileStarts,
+    Records,
+    RecordedLists,
+    TotalsRows,
 }
 
-const GROUPS: [Group; 45] = [
+const GROUPS: [Group; 48] = [
     Group::Lists,
     Group::HardLists,
     Group::ReckonedLists,
@@ -139,6 +144,9 @@ const GROUPS: [Group; 45] = [
     Group::HostileLists,
     Group::TwoRuns,
     Group::ProfileStarts,
+    Group::Records,
+    Group::RecordedLists,
+    Group::TotalsRows,
 ];
 
 impl Group {
@@ -171,6 +179,8 @@ impl Group {
             Group::HostileLists => 80_000,
             Group::TwoRuns => 40_000,
             Group::ProfileStarts => 40_000,
+            Group::RecordedLists => 16_000,
+            Group::TotalsRows => 200_000,
             _ => 1,
         }
     }
@@ -186,7 +196,8 @@ impl Group {
             Group::HostileLists => &[0, 1, 16, 18],
             Group::TwoRuns => &[0, 1, 16, 18, 19, 20],
             Group::ReadOnlyCommands => &[0],
-            Group::ProfileStarts => &[0, 1, 16, 17, 18, 19, 20],
+            Group::ProfileStarts | Group::RecordedLists | Group::TotalsRows => &[0, 1, 16, 17, 18, 19, 20],
+            Group::Records => &[0, 1, 2, 16, 17, 18, 19, 20, 255],
             Group::FalseHeaders => &[0, 1],
             Group::Ranges => &[0, 17],
             Group::HardLists | Group::LongStreams | Group::CutFields | Group::CutNumbered => &[0, 1],
@@ -265,6 +276,15 @@ impl Group {
             Group::HostileLists => readonly::lists(calls, rng, ran),
             Group::TwoRuns => readonly::two_runs(calls, rng, ran),
             Group::ProfileStarts => readonly::starts(calls, rng, ran),
+            _ => self.case_of_totals(calls, rng, ran),
+        }
+    }
+
+    fn case_of_totals(self, calls: &impl Calls, rng: &mut Rng, ran: &mut Ran) -> Outcome {
+        match self {
+            Group::Records => tallies::all_records(calls, rng, ran),
+            Group::RecordedLists => tallies::lists(calls, rng, ran),
+            Group::TotalsRows => tallies::rows(calls, rng, ran),
             _ => Err(format!("{self:?} has no cases")),
         }
     }
@@ -280,7 +300,7 @@ impl Group {
 }
 
 /// Each planted fault, and the group that is to find it.
-const FAULTS: [(Fault, Group); 329] = [
+const FAULTS: [(Fault, Group); 418] = [
     (Fault::ReplyOfError4, Group::Lists),
     (Fault::RoomPastTheReply, Group::Lists),
     (Fault::SkippedOfHeldMessage, Group::Lists),
@@ -610,6 +630,95 @@ const FAULTS: [(Fault, Group); 329] = [
     (Fault::WrappedProfileIgnored, Group::ProfileStarts),
     (Fault::WrappedProfileKept, Group::ProfileStarts),
     (Fault::WrappedProfileTold, Group::StartsInPlace),
+    (Fault::ReckonedError, Group::ReckonedLists),
+    (Fault::ReckonedTotals, Group::ReckonedLists),
+    (Fault::TotalWraps, Group::Boards),
+    (Fault::TotalWraps, Group::RecordedLists),
+    (Fault::TotalReset, Group::Boards),
+    (Fault::TotalStopsShort, Group::Boards),
+    (Fault::TotalOf32Bits, Group::Boards),
+    (Fault::TotalLeavesOut, Group::SilentBoards),
+    (Fault::TotalsStopTogether, Group::Boards),
+    (Fault::LargestTotalUnsound, Group::Boards),
+    (Fault::SkippedAsTaken, Group::Lists),
+    (Fault::SkippedAsTaken, Group::RecordedLists),
+    (Fault::DamagedAsGood, Group::Lists),
+    (Fault::DamagedAsGood, Group::SilenceLaws),
+    (Fault::DamagedSkippedWhole, Group::SilenceLaws),
+    (Fault::OnlyObeyedAsGood, Group::Lists),
+    (Fault::GoodWithoutHeld, Group::DrainedSilences),
+    (Fault::SecondErrorCounted, Group::FieldMessages),
+    (Fault::SecondErrorCounted, Group::RecordedLists),
+    (Fault::EachRowCounted, Group::FieldLists),
+    (Fault::LargestErrorCounted, Group::FieldLists),
+    (Fault::Error7Uncounted, Group::ReadOnlyCommands),
+    (Fault::Error7Uncounted, Group::RecordedLists),
+    (Fault::UsedUpCounted, Group::Lists),
+    (Fault::RefusedCounted, Group::Lists),
+    (Fault::RefusedCounted, Group::SilentBoards),
+    (Fault::RefusedCounted, Group::RecordedLists),
+    (Fault::OtherPortCounted, Group::Lists),
+    (Fault::BothPortsCounted, Group::SilenceLaws),
+    (Fault::BothPortsCounted, Group::RecordedLists),
+    (Fault::SilenceUncounted, Group::DrainedSilences),
+    (Fault::SilenceUncounted, Group::RecordedLists),
+    (Fault::SilenceCountedAsTaken, Group::SilenceLaws),
+    (Fault::TotalsKeptOverStart, Group::Lists),
+    (Fault::TotalsKeptOverStart, Group::RecordedLists),
+    (Fault::TotalsKeptOverRefusedStart, Group::ProfileStarts),
+    (Fault::SecondTotalsKept, Group::Histories),
+    (Fault::ErrorUntold, Group::Lists),
+    (Fault::ErrorUntold, Group::RecordedLists),
+    (Fault::ErrorOfLastRow, Group::FieldLists),
+    (Fault::ErrorOfLastCall, Group::Lists),
+    (Fault::RefusalTellsError, Group::Lists),
+    (Fault::RefusalTellsError, Group::SilentBoards),
+    (Fault::SilenceErrorUntold, Group::DrainedSilences),
+    (Fault::RecordWraps, Group::Records),
+    (Fault::RecordWraps, Group::RecordedLists),
+    (Fault::RecordReset, Group::Records),
+    (Fault::RecordedErrorWraps, Group::Records),
+    (Fault::GoodWraps, Group::Records),
+    (Fault::GoodSumWraps, Group::Records),
+    (Fault::GoodSumStops, Group::Records),
+    (Fault::GoodInTwoParts, Group::Records),
+    (Fault::GoodOfTakenAlone, Group::RecordedLists),
+    (Fault::GoodWithNumber0Alone, Group::Records),
+    (Fault::HeldCountsSwapped, Group::RecordedLists),
+    (Fault::RecordedErrorOf1, Group::Records),
+    (Fault::RecordedErrorOf1, Group::RecordedLists),
+    (Fault::RefusalRecorded, Group::Records),
+    (Fault::RefusalRecordedWhole, Group::RecordedLists),
+    (Fault::Number2Recorded, Group::Records),
+    (Fault::Error8As7, Group::Records),
+    (Fault::ErrorOf3Bits, Group::Records),
+    (Fault::Error8Uncounted, Group::Records),
+    (Fault::RecordWithoutError0, Group::RecordedLists),
+    (Fault::LongerRowTaken, Group::TotalsRows),
+    (Fault::ShorterRowTaken, Group::TotalsRows),
+    (Fault::NoRowTaken, Group::TotalsRows),
+    (Fault::RowBeforePort, Group::TotalsRows),
+    (Fault::RowBehindRoom, Group::TotalsRows),
+    (Fault::WrongRowCleared, Group::TotalsRows),
+    (Fault::WrongRowClearsPort, Group::TotalsRows),
+    (Fault::WrongRowWritesRoom, Group::TotalsRows),
+    (Fault::WrongRowForgetsHeld, Group::TotalsRows),
+    (Fault::WrongArrayClearsRow, Group::TotalsRows),
+    (Fault::WrappedErrorLost, Group::WrappedLists),
+    (Fault::WrappedErrorLost, Group::RecordedLists),
+    (Fault::WrappedTotalsLost, Group::WrappedLists),
+    (Fault::WrappedTallyOfOther, Group::WrappedLists),
+    (Fault::WrappedTallyOfOther, Group::RecordedLists),
+    (Fault::WrappedTallyOfNone, Group::WrappedLists),
+    (Fault::WrappedCountAsReported, Group::Records),
+    (Fault::WrappedCountAsReported, Group::RecordedLists),
+    (Fault::WrappedCountOfRefusal, Group::RecordedLists),
+    (Fault::WrappedCountWithoutError, Group::RecordedLists),
+    (Fault::WrappedCountSwaps, Group::Records),
+    (Fault::WrappedSilenceError, Group::AnySilences),
+    (Fault::WrappedTotalsKept, Group::StartsInPlace),
+    (Fault::WrappedTotalsKept, Group::RecordedLists),
+    (Fault::WrappedRefusedTotalsKept, Group::StartsInPlace),
 ];
 
 fn number_from(name: &str) -> Option<u64> {

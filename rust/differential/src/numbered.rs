@@ -188,8 +188,9 @@ impl<C: Calls> Alone<'_, C> {
         let fed = self.calls.feed(port, self.board, message, &mut room, &mut self.page);
         ran.count(fed.number);
         same("number and taken", &(fed.number, fed.taken), &(0, message.len()))?;
+        same("error told and in the reply", &fed.error, &room[7])?;
         self.board = fed.board;
-        Ok(room[7])
+        Ok(fed.error)
     }
 }
 

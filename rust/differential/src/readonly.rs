@@ -9,7 +9,7 @@ use crate::in_place;
 use crate::lists::{or_shrink, run_or_shrink, Beside};
 use crate::records;
 use crate::singles::{self, holding_nothing_in};
-use ketphiroj::{Board, Port, Settings};
+use ketphiroj::{Board, Port, Settings, Tally};
 use plain::generate::numbered::{self, numbered};
 use plain::generate::readonly::{self, Run, Turn};
 use plain::generate::{self, silences, Rng, Step};
@@ -109,12 +109,13 @@ pub fn lists(calls: &impl Calls, rng: &mut Rng, ran: &mut Ran) -> Outcome {
     run_or_shrink(calls, Start { profile: Profile::ReadOnly, page: &page }, &list, beside, ran)
 }
 
-/// What port 0 sees after a call of its own: the answer, the room, its port, the working values and the page.
+/// What port 0 sees after a call of its own: the answer, the room, its port and totals, the working values and the page.
 #[derive(Debug, PartialEq, Eq)]
 struct Seen {
-    answer: (u8, usize, usize, bool),
+    answer: (u8, usize, usize, u8, bool),
     room: Vec<u8>,
     port: Port,
+    tally: Tally,
     settings: Settings,
     page: Vec<u8>,
 }
@@ -129,8 +130,9 @@ fn seen(calls: &impl Calls, page: &[u8], list: &[Step], ran: &mut Ran) -> Result
         ran.count(fed.number);
         board = fed.board;
         if step.port_and_room().is_some_and(|(port, _)| port == 0) {
-            let (port, settings, page) = (board.first, board.settings, page.clone());
-            all.push(Seen { answer: (fed.number, fed.taken, fed.skipped, fed.saved), room, port, settings, page });
+            let (port, tally, settings, page) = (board.first, board.tally0, board.settings, page.clone());
+            let answer = (fed.number, fed.taken, fed.skipped, fed.error, fed.saved);
+            all.push(Seen { answer, room, port, tally, settings, page });
         }
     }
     Ok(all)
@@ -144,9 +146,9 @@ fn plain_seen(profile: Profile, page: &[u8], list: &[Step]) -> Result<Vec<Seen>,
         let fed = step.answer(&board, &mut room, &mut page).ok_or("a restart is no call")?;
         board = fed.board;
         if step.port_and_room().is_some_and(|(port, _)| port == 0) {
-            let Board { first: port, settings, .. } = records::board(&board);
-            let page = page.clone();
-            all.push(Seen { answer: (fed.number, fed.taken, fed.skipped, fed.saved), room, port, settings, page });
+            let Board { first: port, tally0: tally, settings, .. } = records::board(&board);
+            let (answer, page) = ((fed.number, fed.taken, fed.skipped, fed.error, fed.saved), page.clone());
+            all.push(Seen { answer, room, port, tally, settings, page });
         }
     }
     Ok(all)
@@ -157,10 +159,11 @@ fn same_seen(what: &str, first: &[Seen], second: &[Seen]) -> Outcome {
     same(&format!("{what}: calls of port 0"), &first.len(), &second.len())?;
     for (place, (one, other)) in first.iter().zip(second).enumerate() {
         let part = |part: &str| format!("{what}: {part} of call {place} of port 0");
-        same(&part("number, taken, skipped and mark"), &one.answer, &other.answer)?;
+        same(&part("number, taken, skipped, error and mark"), &one.answer, &other.answer)?;
         same_bytes(&part("room"), &one.room, &other.room)?;
         same(&part("held"), &one.port.held, &other.port.held)?;
         same_bytes(&part("bytes"), &one.port.bytes, &other.port.bytes)?;
+        same(&part("totals"), &one.tally, &other.tally)?;
         same(&part("settings"), &one.settings, &other.settings)?;
         same_bytes(&part("page"), &one.page, &other.page)?;
     }

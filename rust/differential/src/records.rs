@@ -1,13 +1,13 @@
 //! The plain reading's records as the library's.
 
-use ketphiroj::ffi::{FlatField, FlatReply, FlatValues, StartedInPlace, Written};
-use ketphiroj::{Board, Port, Profile, Settings};
+use ketphiroj::ffi::{FlatField, FlatReply, FlatValues, StartedInPlace, Written, TOTALS};
+use ketphiroj::{Board, Port, Profile, Settings, Tally};
 
 fn port(port: &plain::Port) -> Port {
     Port { bytes: port.bytes, held: port.held }
 }
 
-fn settings(settings: plain::Settings) -> Settings {
+pub fn settings(settings: plain::Settings) -> Settings {
     let plain::Settings { baud, accelerometer, gyroscope } = settings;
     Settings { baud, accelerometer, gyroscope }
 }
@@ -29,7 +29,31 @@ pub fn board(board: &plain::Board) -> Board {
         second: port(&board.ports[1]),
         settings: settings(board.settings),
         readonly: readonly(board.profile),
+        tally0: tally(&board.tallies[0]),
+        tally1: tally(&board.tallies[1]),
     }
+}
+
+pub fn tally(tally: &plain::Tally) -> Tally {
+    let plain::Tally { taken, skipped, good, errors } = *tally;
+    Tally { taken, skipped, good, errors }
+}
+
+/// The other way round: the library's totals, for a law that is stated in the plain reading.
+pub fn plain_tally(tally: &Tally) -> plain::Tally {
+    let Tally { taken, skipped, good, errors } = *tally;
+    plain::Tally { taken, skipped, good, errors }
+}
+
+/// The totals as a row, in the order of the record.
+pub fn totals(tally: &plain::Tally) -> [u64; TOTALS] {
+    let [e0, e1, e2, e3, e4, e5, e6, e7] = tally.errors;
+    [tally.taken, tally.skipped, tally.good, e0, e1, e2, e3, e4, e5, e6, e7]
+}
+
+/// The record of which this is the row.
+pub fn tally_of([taken, skipped, good, errors @ ..]: [u64; TOTALS]) -> plain::Tally {
+    plain::Tally { taken, skipped, good, errors }
 }
 
 pub fn started_in_place(started: plain::StartedInPlace) -> StartedInPlace {

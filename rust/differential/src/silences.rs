@@ -9,7 +9,8 @@ use crate::numbered::{growing, unread, Alone};
 use crate::records;
 use crate::runs::{to_the_end, Arrival};
 use crate::singles;
-use ketphiroj::Board;
+use crate::tallies::add_up;
+use ketphiroj::{Board, Port, Tally};
 use plain::generate::numbered::{self, numbered, Silences};
 use plain::generate::{self, silences, Rng, Step};
 use plain::{Accepted, Draining, Profile, Reckoned, Reckoning, SumLaw};
@@ -49,11 +50,12 @@ pub fn against_reckoning(calls: &impl Calls, start: Start, list: &[Step], ran: &
             return Ok(());
         }
         let mut room = given.room();
-        let Fed { number, taken, skipped, saved, board } = given.answer(calls, alone.board, &mut room, &mut alone.page);
+        let fed = given.answer(calls, alone.board, &mut room, &mut alone.page);
+        let Fed { number, taken, skipped, error, saved, board } = fed;
         ran.count(number);
         alone.board = board;
         let told = |text| format!("step {place}: {text}");
-        let answer = Reckoned { number, taken, skipped, saved, reply: reply_in(number, &room).to_vec() };
+        let answer = Reckoned { number, taken, skipped, error, saved, reply: reply_in(number, &room).to_vec() };
         same("answer and reckoning", &answer, &reckoned).map_err(told)?;
         same_bytes("room past the reply", &room[answer.reply.len()..], &given.room()[answer.reply.len()..])
             .and_then(|()| reckoned_state(&reckoning, &alone.board, &alone.page))
@@ -111,17 +113,17 @@ fn lawful(calls: &impl Calls, start: Start, list: &[Step], ran: &mut Ran) -> Out
 fn refused(before: &Board, fed: &Fed) -> Outcome {
     // From a start on board and page stay sound, so that 17, 19 and 20 cannot come.
     same("number of a refusal", &[16, 18].contains(&fed.number), &true)?;
-    same("counts of a refusal", &(fed.taken, fed.skipped, fed.saved), &(0, 0, false))?;
+    same("counts of a refusal", &(fed.taken, fed.skipped, fed.error, fed.saved), &(0, 0, 0, false))?;
     same_board(&fed.board, before)
 }
 
-/// Of an accepted call: what is taken, held and left alone, and the sum law.
+/// Of an accepted call: what is taken, held and left alone, and the sum law, of the calls and between the totals.
 fn accepted(before: &Board, step: &Step, fed: &Fed, reply: &[u8], sums: &mut [SumLaw; 2]) -> Outcome {
     let (port, room) = step.port_and_room().ok_or("a restart is no call")?;
     same("room for the longest reply", &(room >= Board::REPLY), &true)?;
-    let (named, other, given) = match port {
-        0 => (&fed.board.first, &fed.board.second, &before.second),
-        1 => (&fed.board.second, &fed.board.first, &before.first),
+    let (named, tally) = match port {
+        0 => (&fed.board.first, &fed.board.tally0),
+        1 => (&fed.board.second, &fed.board.tally1),
         _ => return Err(format!("a call of port {port} was accepted")),
     };
     let (taken, skipped, held) = (fed.taken, fed.skipped, named.held);
@@ -133,10 +135,19 @@ fn accepted(before: &Board, step: &Step, fed: &Fed, reply: &[u8], sums: &mut [Su
     sums[usize::from(port)].count(&Accepted { row, taken, skipped, reply, held })?;
     same_bytes("held", &named.bytes[..held], &row[row.len() - held..])?;
     same_bytes("past held", &named.bytes[held..], &[0; 260][held..])?;
-    same("other port", other, given)?;
+    same("other port", &other_port(port, &fed.board), &other_port(port, before))?;
+    add_up(tally, held)?;
     match step {
         Step::Silence { .. } => same("nothing held after 1", &(fed.number == 0 || held == 0), &true),
         _ => same("all taken with 1", &(fed.number == 0 || taken == step.chunk().len()), &true),
+    }
+}
+
+/// The port that is not named, and its totals.
+fn other_port(named: u8, board: &Board) -> (Port, Tally) {
+    match named {
+        0 => (board.second, board.tally1),
+        _ => (board.first, board.tally0),
     }
 }
 

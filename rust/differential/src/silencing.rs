@@ -64,7 +64,7 @@ fn other_scan(fault: Fault, before: &Before, room: &mut [u8], page: &mut [u8]) -
         Fault::SilenceDropsAll | Fault::SilenceDropsUncounted => held,
         Fault::SilenceReportsUndecided if held >= 4 => {
             report_undecided(front, room);
-            return Some(Fed { number: 0, skipped: fed.skipped + 1, ..fed });
+            return Some(Fed { number: 0, skipped: fed.skipped + 1, error: 1, ..fed });
         }
         _ => 0,
     };
@@ -129,6 +129,7 @@ fn stop_before_message(before: &Before, fed: &mut Fed, room: &mut [u8], page: &m
         drop_front(after, fed.skipped);
     }
     fed.number = 1;
+    fed.error = 0;
     fed.saved = false;
     room.copy_from_slice(&before.room);
     page.copy_from_slice(&before.page);

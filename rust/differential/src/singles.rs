@@ -44,14 +44,15 @@ fn shown(before: &Pair, given: Given) -> String {
         Given::Silence { port, room } => format!("silence of port {port}, room {room}"),
     };
     format!(
-        "  {call}\n  page {}\n  port 0 holds {} of {}\n  port 1 holds {} of {}\n  {:?}, {:?}",
+        "  {call}\n  page {}\n  port 0 holds {} of {}\n  port 1 holds {} of {}\n  {:?}, {:?}\n  {:?}",
         hex(&before.page),
         first.held,
         hex(&first.bytes),
         second.held,
         hex(&second.bytes),
         before.plain.settings,
-        before.plain.profile
+        before.plain.profile,
+        before.plain.tallies
     )
 }
 
@@ -105,7 +106,7 @@ pub fn all_values() -> Vec<plain::Values> {
     all
 }
 
-/// A board that holds nothing, with any usable settings, in either profile, on this page.
+/// A board that holds nothing, with any usable settings and any totals, in either profile, on this page.
 pub fn holding_nothing(rng: &mut Rng, page: &[u8]) -> Pair {
     let profile = generate::profile(rng);
     holding_nothing_in(rng, profile, page)
@@ -114,7 +115,8 @@ pub fn holding_nothing(rng: &mut Rng, page: &[u8]) -> Pair {
 /// Such a board in this profile.
 pub fn holding_nothing_in(rng: &mut Rng, profile: plain::Profile, page: &[u8]) -> Pair {
     let ports = [plain::Port::fresh(), plain::Port::fresh()];
-    let plain = plain::Board { ports, settings: generate::usable_settings(rng), profile };
+    let (settings, tallies) = (generate::usable_settings(rng), generate::tallies(rng));
+    let plain = plain::Board { ports, settings, profile, tallies };
     Pair { board: records::board(&plain), plain, page: page.to_vec() }
 }
 

@@ -1,7 +1,8 @@
 //! The wrapper's calls under test.
 
 use crate::calls::{FieldGiven, NumberedGiven};
-use ketphiroj::{Board, Field, Outcome, Profile, Refusal, Reply, Values, PAGE};
+use ketphiroj::{Board, Field, Outcome, Profile, Refusal, Reply, Tally, Values, PAGE};
+use plain::Told;
 
 /// The wrapper's calls. An implementation changes some of them to plant a fault: the library's own calls are compared
 /// first, so a fault in those would never come as far as the wrapper's.
@@ -37,6 +38,19 @@ pub trait Wrapper {
         page: &mut [u8],
     ) -> Result<Outcome, Refusal> {
         board.silence(port, room, page)
+    }
+
+    fn wrapped_tally(&self, board: &Board, port: u8) -> Option<Tally> {
+        board.tally(port).copied()
+    }
+
+    fn wrapped_count(&self, tally: &mut Tally, answer: &Result<Outcome, Refusal>, before: usize, after: usize) {
+        tally.count(answer, before, after)
+    }
+
+    fn wrapped_count_call(&self, tally: &mut Tally, told: &Told) {
+        let Told { number, taken, skipped, error, before, after } = *told;
+        tally.count_call(number, taken, skipped, error, before, after)
     }
 
     fn wrapped_check_message(&self, message: &[u8]) -> Result<(), Refusal> {

@@ -2,10 +2,11 @@
 //! shrinking of a failing list. [`fields`] has the commands of several fields, and the replies to them, [`numbered`]
 //! the numbered commands, the pages that keep a number, and histories of feeds and restarts, [`ranges`] the gyroscope's
 //! ranges that this board no longer takes, [`silences`] false headers that hide commands, and lists with silences,
-//! [`readonly`] what port 1 of a read-only board does not do.
+//! [`readonly`] what port 1 of a read-only board does not do, [`counting`] lists of calls of which everything is counted.
 //!
 //! The same seed gives the same material on every machine.
 
+pub mod counting;
 pub mod fields;
 pub mod numbered;
 pub mod ranges;
@@ -14,7 +15,7 @@ pub mod silences;
 
 use crate::message::payload_of;
 use crate::{feed, message, silence, start, sums, write_page, Answered, Board, Fed, Port, Profile};
-use crate::{Settings, Sums, Values};
+use crate::{Settings, Sums, Tally, Values};
 use std::fmt;
 
 /// Splitmix64.
@@ -743,9 +744,32 @@ pub fn any_port(rng: &mut Rng) -> Port {
     port
 }
 
+/// A total: none, a few, so many that a call or two reach the largest figure, that figure, or any.
+pub fn total(rng: &mut Rng) -> u64 {
+    match rng.below(8) {
+        0 => 0,
+        1 => rng.below(1000) as u64,
+        2 | 3 => u64::MAX - rng.below(3) as u64,
+        4 => u64::MAX - rng.below(600) as u64,
+        5 => rng.pick(&[0xFF, 0xFFFF, 0xFFFF_FFFF, 0x7FFF_FFFF_FFFF_FFFF, 0x8000_0000_0000_0000]),
+        _ => rng.word(),
+    }
+}
+
+/// Totals of any values.
+pub fn tally(rng: &mut Rng) -> Tally {
+    Tally { taken: total(rng), skipped: total(rng), good: total(rng), errors: [(); 8].map(|()| total(rng)) }
+}
+
+/// The totals of both ports, any: no totals make a board unsound.
+pub fn tallies(rng: &mut Rng) -> [Tally; 2] {
+    [tally(rng), tally(rng)]
+}
+
 /// A sound board, with junk past the held bytes here and there.
 pub fn sound_board(rng: &mut Rng) -> Board {
-    Board { ports: [sound_port(rng), sound_port(rng)], settings: usable_settings(rng), profile: profile(rng) }
+    let ports = [sound_port(rng), sound_port(rng)];
+    Board { ports, settings: usable_settings(rng), profile: profile(rng), tallies: tallies(rng) }
 }
 
 /// A board of any contents, sound or not; some are unsound by a range of the gyroscope alone that is no longer taken.
@@ -758,7 +782,7 @@ pub fn board(rng: &mut Rng) -> Board {
         return board;
     }
     let settings = if rng.chance(1, 2) { usable_settings(rng) } else { settings(rng) };
-    Board { ports: [any_port(rng), any_port(rng)], settings, profile: profile(rng) }
+    Board { ports: [any_port(rng), any_port(rng)], settings, profile: profile(rng), tallies: tallies(rng) }
 }
 
 // Lists of feeds.

@@ -37,17 +37,6 @@ impl Tally {
             stop_at_largest(&mut self.errors[usize::from(error)], 1);
         }
     }
-
-    /// The totals as one row, in the record's order.
-    pub fn row(&self) -> [u64; 11] {
-        let [e0, e1, e2, e3, e4, e5, e6, e7] = self.errors;
-        [self.taken, self.skipped, self.good, e0, e1, e2, e3, e4, e5, e6, e7]
-    }
-
-    /// The record with these totals.
-    pub fn of_row([taken, skipped, good, errors @ ..]: [u64; 11]) -> Tally {
-        Tally { taken, skipped, good, errors }
-    }
 }
 
 /// 02-13.3: "Until a total reaches its largest figure, where it stops".

@@ -123,12 +123,14 @@ fn runs_of_a5() {
 fn in_one_row(port: u8, board: &Board, chunk: &[u8], room: &mut [u8], page: &mut [u8]) -> Fed {
     let record = &board.ports[usize::from(port)];
     let row = [&record.bytes[..record.held], chunk].concat();
-    let mut fed = Fed { number: 1, taken: chunk.len(), skipped: 0, saved: false, board: *board };
+    let mut fed = Fed { number: 1, taken: chunk.len(), skipped: 0, error: 0, saved: false, board: *board };
     let mut at = 0;
     let mut end = row.len();
+    let mut good = 0;
     for event in scan(&row) {
         at = event.after();
         fed.skipped += event.skipped();
+        good += event.good();
         if let Some((place, length)) = event.message() {
             end = (place + length).max(record.held);
             fed.number = 0;
@@ -136,6 +138,7 @@ fn in_one_row(port: u8, board: &Board, chunk: &[u8], room: &mut [u8], page: &mut
             let message = &row[place..place + length];
             let handled = handle(board.profile, port, message, board.settings, values(page).unwrap());
             fed.saved = handled.saved;
+            fed.error = handled.reply[7];
             fed.board.settings = handled.settings;
             room[..handled.reply.len()].copy_from_slice(&handled.reply);
             page.copy_from_slice(&write_page(&handled.values));
@@ -146,7 +149,19 @@ fn in_one_row(port: u8, board: &Board, chunk: &[u8], room: &mut [u8], page: &mut
     after.held = end - at;
     after.bytes[..end - at].copy_from_slice(&row[at..end]);
     fed.board.ports[usize::from(port)] = after;
+    fed.board.tallies[usize::from(port)] = counted(&board.tallies[usize::from(port)], &fed, good);
     fed
+}
+
+/// The totals with an accepted feed more, each up to its largest figure.
+fn counted(totals: &Tally, fed: &Fed, good: usize) -> Tally {
+    let more = |total: u64, more: usize| total.saturating_add(more as u64);
+    let mut errors = totals.errors;
+    if fed.number == 0 {
+        errors[usize::from(fed.error)] = more(errors[usize::from(fed.error)], 1);
+    }
+    let (taken, skipped) = (more(totals.taken, fed.taken), more(totals.skipped, fed.skipped));
+    Tally { taken, skipped, good: more(totals.good, good), errors }
 }
 
 /// A page, and a chunk for it: a beginning of a stream, of a message of several fields, or of a numbered command.
@@ -190,7 +205,7 @@ fn boards_of_any_contents() {
         let other = if expected == 0 {
             in_one_row(port, &board, &chunk, &mut other_room, &mut other_page)
         } else {
-            Fed { number: expected, taken: 0, skipped: 0, saved: false, board }
+            Fed { number: expected, taken: 0, skipped: 0, error: 0, saved: false, board }
         };
         assert_eq!(fed, other, "port {port}, board {board:02X?}, chunk {chunk:02X?}");
         assert_eq!(room, other_room);

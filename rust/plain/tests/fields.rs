@@ -3,7 +3,7 @@
 
 mod common;
 
-use common::{fed, hex, page_of, rows, Both};
+use common::{fed, hex, page_of, rows, uncounted, Both};
 use plain::generate::{self, fields, Rng};
 use plain::*;
 
@@ -271,7 +271,7 @@ fn separate_messages() {
         }
         assert_eq!(answer.reply, message(kind, &replied), "{payload:02X?}");
         assert_eq!(answer.saved, saved);
-        assert_eq!((one.board, &one.page), (many.board, &many.page));
+        assert_eq!((uncounted(&one.board), &one.page), (uncounted(&many.board), &many.page));
         changed += usize::from(one.page != page);
     }
     assert!(changed > 2000, "{changed}");

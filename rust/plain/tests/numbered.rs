@@ -3,7 +3,7 @@
 
 mod common;
 
-use common::{fed, hex, page_of, rows, Both};
+use common::{fed, hex, page_of, rows, uncounted, Both};
 use plain::generate::numbered::{self, numbered};
 use plain::generate::{self, Rng, Step};
 use plain::*;
@@ -381,7 +381,7 @@ fn inside_as_outside() {
         let separate = fed(&mut outside, 1, &message(other, &fields));
         let end = separate.reply.len() - 2;
         assert_eq!(answer.reply, message(0x7C, &separate.reply[4..end]));
-        assert_eq!((inside.board, &inside.page), (outside.board, &outside.page));
+        assert_eq!((uncounted(&inside.board), &inside.page), (uncounted(&outside.board), &outside.page));
     }
     assert!(longest > 90, "{longest}");
     // The longest there is: sixteen reports of the baud rate.

@@ -59,7 +59,8 @@ fn sound_is_a_writing() {
             // 02-05.3: "starting uses the factory value".
             gyroscope: written.gyroscope.filter(|&range| range != 6 && range != 7).unwrap_or(3),
         };
-        assert_eq!(board, Board { ports: [Port::fresh(), Port::fresh()], settings: expected, profile });
+        let (ports, tallies) = ([Port::fresh(), Port::fresh()], [Tally::default(); 2]);
+        assert_eq!(board, Board { ports, settings: expected, profile, tallies });
     }
     let mut numbers = [0; 32];
     for turn in 0..60_000 {

@@ -22,12 +22,13 @@ fn keeping(number: u32) -> Both {
     Both::start(Profile::ReadOnly, &write_page(&Values { last_number: Some(number), ..Values::default() }))
 }
 
-/// Feeds one good message to port 1. Nothing but the reply comes of it.
+/// Feeds one good message to port 1. Nothing but the reply comes of it, and what is counted for port 1.
 fn refused_or_read(both: &mut Both, bytes: &[u8]) -> Vec<u8> {
     let (before, page) = (both.board, both.page.clone());
     let answer = fed(both, 1, bytes);
     assert!(!answer.saved, "{bytes:02X?}");
-    assert_eq!((both.board, &both.page), (before, &page), "{bytes:02X?}");
+    let expected = Board { tallies: [before.tallies[0], both.board.tallies[1]], ..before };
+    assert_eq!((both.board, &both.page), (expected, &page), "{bytes:02X?}");
     answer.reply
 }
 
@@ -312,9 +313,10 @@ fn silences_on_port_1() {
 /// What port 0 sees after a call of its own.
 #[derive(Clone, Debug, PartialEq, Eq)]
 struct Seen {
-    answer: (u8, usize, usize, bool),
+    answer: (u8, usize, usize, u8, bool),
     room: Vec<u8>,
     port: Port,
+    tally: Tally,
     settings: Settings,
     page: Vec<u8>,
 }
@@ -330,9 +332,10 @@ fn seen_by_port_0(profile: Profile, page: &[u8], list: &[Step]) -> (Vec<Seen>, u
         board = fed.board;
         match port {
             0 => seen.push(Seen {
-                answer: (fed.number, fed.taken, fed.skipped, fed.saved),
+                answer: (fed.number, fed.taken, fed.skipped, fed.error, fed.saved),
                 room,
                 port: board.ports[0],
+                tally: board.tallies[0],
                 settings: board.settings,
                 page: page.clone(),
             }),

@@ -3,7 +3,7 @@
 
 mod common;
 
-use common::{hex, page_of, Both, P1, P1_REPLY, P2};
+use common::{hex, page_of, uncounted, Both, P1, P1_REPLY, P2};
 use plain::*;
 
 /// One message in on a fresh board with a blank page, port 0; the reply out.
@@ -172,7 +172,7 @@ fn held() {
     assert_eq!(fed.board, board);
     let fed = feed(0, &board, &longest[260..], &mut room, &mut page.clone());
     assert_eq!((fed.number, fed.taken, fed.skipped), (0, 1, 0));
-    assert_eq!(fed.board, start(Profile::Full, &page).1);
+    assert_eq!(uncounted(&fed.board), start(Profile::Full, &page).1);
     // Fields of 19 bytes do not fill it.
     assert_eq!(room[6..8], [0x11, 4]);
 
@@ -189,7 +189,7 @@ fn held() {
             for fed_port in 0..2 {
                 let mut room = [7; 166];
                 let fed = feed(fed_port, &board, &hex(P1), &mut room, &mut page.clone());
-                let given = Fed { number: 17, taken: 0, skipped: 0, saved: false, board };
+                let given = Fed { number: 17, taken: 0, skipped: 0, error: 0, saved: false, board };
                 assert_eq!(fed, given);
                 assert_eq!(room, [7; 166]);
             }
@@ -299,7 +299,8 @@ fn rooms() {
 /// "pages of 63 and 65 bytes"
 #[test]
 fn pages() {
-    let fresh = Board { ports: [Port::fresh(), Port::fresh()], settings: FACTORY, profile: Profile::Full };
+    let tallies = [Tally::default(); 2];
+    let fresh = Board { ports: [Port::fresh(); 2], settings: FACTORY, profile: Profile::Full, tallies };
     for (length, expected) in [(0, 19), (63, 19), (64, 0), (65, 19), (128, 19)] {
         let mut page = vec![0xFF; length];
         assert_eq!(check_page(&page), expected);

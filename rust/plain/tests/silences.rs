@@ -3,7 +3,7 @@
 
 mod common;
 
-use common::{hex, Answer, Both, P1, P1_REPLY, P2};
+use common::{hex, uncounted, Answer, Both, P1, P1_REPLY, P2};
 use plain::generate::numbered::{numbered, Silences};
 use plain::generate::{self, silences, Call, Rng, Step};
 use plain::*;
@@ -85,7 +85,8 @@ fn what_is_undecided_is_skipped() {
         let mut both = Both::blank();
         hold(&mut both, 0, &hex(held));
         assert_eq!(told(&both.silence(0)), (1, hex(held).len(), vec![]), "{held}");
-        assert_eq!((both.board, &both.page[..]), (start(Profile::Full, &[0xFF; 64]).1, &[0xFF; 64][..]));
+        let started = start(Profile::Full, &[0xFF; 64]).1;
+        assert_eq!((uncounted(&both.board), &both.page[..]), (started, &[0xFF; 64][..]));
     }
 }
 
@@ -178,7 +179,7 @@ fn refusals() {
         // Neither blank nor sound.
         let (mut given_room, mut given_page) = (vec![0x77; room], vec![0x33; page]);
         let refused = silence(port, &board, &mut given_room, &mut given_page);
-        assert_eq!(refused, Fed { number, taken: 0, skipped: 0, saved: false, board });
+        assert_eq!(refused, Fed { number, taken: 0, skipped: 0, error: 0, saved: false, board });
         assert_eq!((given_room, given_page), (vec![0x77; room], vec![0x33; page]));
         assert_eq!(feed(port, &board, &hex(P1), &mut vec![0; room], &mut vec![0x33; page]).number, number);
     }
@@ -403,14 +404,14 @@ impl Alone {
             self.accepted(step, &fed, &reply)?;
         } else {
             common::same("number of a refusal", &(16..=20).contains(&fed.number), &true)?;
-            common::same("counts of a refusal", &(fed.taken, fed.skipped, fed.saved), &(0, 0, false))?;
+            common::same("counts of a refusal", &(fed.taken, fed.skipped, fed.error, fed.saved), &(0, 0, 0, false))?;
             common::same("board of a refusal", &fed.board, &self.board)?;
         }
         self.board = fed.board;
         Ok((fed, reply))
     }
 
-    /// Of an accepted call: what is taken, held and left alone, and the sum law.
+    /// Of an accepted call: what is taken, held and left alone, and the sum law, also between the totals.
     fn accepted(&mut self, step: &Step, fed: &Fed, reply: &[u8]) -> Result<(), String> {
         let named = usize::from(step.port_and_room().expect("a call").0);
         let (taken, skipped, held) = (fed.taken, fed.skipped, fed.board.ports[named].held);
@@ -420,6 +421,8 @@ impl Alone {
         common::same("at most 260 held", &(held <= 260), &true)?;
         common::same("held", &fed.board.ports[named].bytes[..held], &row[row.len() - held..])?;
         common::same("other port", &fed.board.ports[1 - named], &self.board.ports[1 - named])?;
+        common::same("other totals", &fed.board.tallies[1 - named], &self.board.tallies[1 - named])?;
+        common::same("the law of the totals", &adds_up(&fed.board.tallies[named], held), &true)?;
         match step {
             Step::Silence { .. } => common::same("held after 1", &(fed.number == 0 || held == 0), &true),
             _ => common::same("taken with 1", &(fed.number == 0 || taken == step.chunk().len()), &true),

@@ -3,9 +3,8 @@
 #![allow(dead_code)]
 
 use plain::generate::Step;
-use plain::{
-    check_message, feed, read_reply, scan_marked, silence, start, Board, Event, Fed, Port, Profile, Reckoned, Reckoning,
-};
+use plain::{adds_up, check_message, feed, read_reply, scan_marked, silence, start};
+use plain::{Board, Event, Fed, Port, Profile, Reckoned, Reckoning};
 
 /// "Blanks are only for the eye."
 pub fn hex(text: &str) -> Vec<u8> {
@@ -36,6 +35,7 @@ pub struct Answer {
     pub number: u8,
     pub taken: usize,
     pub skipped: usize,
+    pub error: u8,
     pub saved: bool,
     pub reply: Vec<u8>,
 }
@@ -72,7 +72,8 @@ impl Both {
         self.compare_state().unwrap();
     }
 
-    /// Profile, settings, held bytes and page agree; past the held bytes a port is zero.
+    /// Profile, settings, held bytes, totals and page agree; past the held bytes a port is zero. The totals and the bytes held
+    /// add up.
     pub fn compare_state(&self) -> Result<(), String> {
         same("profile", &self.board.profile, &self.reckoning.profile())?;
         same("settings", &self.board.settings, &self.reckoning.settings())?;
@@ -81,6 +82,9 @@ impl Both {
             let record = &self.board.ports[usize::from(port)];
             same("held", &record.bytes[..record.held], &self.reckoning.held(port)[..])?;
             same("past held", &record.bytes[record.held..], &vec![0; 260 - record.held][..])?;
+            let totals = &self.board.tallies[usize::from(port)];
+            same("totals", totals, &self.reckoning.totals(port))?;
+            same("the sum law of the totals", &adds_up(totals, record.held), &true)?;
         }
         Ok(())
     }
@@ -126,7 +130,7 @@ impl Both {
         let filling = 0x5C;
         let mut room = vec![filling; room_length];
         let before = self.board;
-        let Fed { number, taken, skipped, saved, board } = call(&self.board, &mut room, &mut self.page);
+        let Fed { number, taken, skipped, error, saved, board } = call(&self.board, &mut room, &mut self.page);
         let reckoned = reckon(&mut self.reckoning);
         self.board = board;
 
@@ -135,15 +139,16 @@ impl Both {
         let mut expected_room = vec![filling; room_length];
         expected_room[..reckoned.reply.len()].copy_from_slice(&reckoned.reply);
         same("room", &room[..], &expected_room[..])?;
-        let answer = Reckoned { number, taken, skipped, saved, reply: reply.clone() };
+        let answer = Reckoned { number, taken, skipped, error, saved, reply: reply.clone() };
         same("answer", &answer, &reckoned)?;
         if port < 2 {
             let other = 1 - usize::from(port);
             same("other port", &before.ports[other], &self.board.ports[other])?;
+            same("totals of the other port", &before.tallies[other], &self.board.tallies[other])?;
         } else {
             same("board", &before, &self.board)?;
         }
-        Ok(Answer { number, taken, skipped, saved, reply })
+        Ok(Answer { number, taken, skipped, error, saved, reply })
     }
 
     pub fn feed(&mut self, port: u8, chunk: &[u8]) -> Answer {
@@ -184,6 +189,11 @@ pub fn fed(both: &mut Both, port: u8, bytes: &[u8]) -> Answer {
 pub fn rows(reply: &[u8]) -> Vec<(u8, u8)> {
     let rows = (0..).map(|row| read_reply(reply, row)).take_while(|row| row.number == 0);
     rows.map(|row| (row.echo, row.error)).collect()
+}
+
+/// The board, but for what it has counted.
+pub fn uncounted(board: &Board) -> Board {
+    Board { tallies: Default::default(), ..*board }
 }
 
 pub fn same<T: PartialEq + std::fmt::Debug + ?Sized>(what: &str, left: &T, right: &T) -> Result<(), String> {

@@ -1,8 +1,8 @@
--- `totals::add_to` meets its contract.
+-- `board::counting::add_to` meets its contract.
 use Rattle.totals.proofs.Sums.{added}
 use borrow.Author.Needs.{needs}
-use Rattle.totals.proofs.add_to.Statement.{statement}
-use Rattle.totals.proofs.add_to.Tie as tie
+use Rattle.board.proofs.counting.add_to.Statement.{statement}
+use Rattle.board.proofs.counting.add_to.Tie as tie
 
 mul-total : tie.Need-mul-total
 mul-total c = search needs

@@ -1,8 +1,8 @@
--- `totals::add_call` meets its contract.
+-- `board::counting::add_call` meets its contract.
 use Rattle.totals.proofs.Sums.{plus-length, row-place, row-error, row-above, row-other}
 use borrow.Author.Needs.{needs}
-use Rattle.totals.proofs.add_call.Statement.{statement}
-use Rattle.totals.proofs.add_call.Tie as tie
+use Rattle.board.proofs.counting.add_call.Statement.{statement}
+use Rattle.board.proofs.counting.add_call.Tie as tie
 
 add-to-requires : tie.Need-add-to-requires
 add-to-requires c κs = search needs
