@@ -17,11 +17,11 @@ use Rattle.command.specs.Rights.{guardedRights}
 use Rattle.board.specs.Profile.{Profile}
 use Rattle.board.specs.declared.feeding.Stepped.{Stepped}
 use Rattle.board.specs.Feed.{leftOf, stepOn, stepBy}
-use Rattle.board.specs.Place.{Stepping, inPlace, placeNumber, placeOn, placeBy, placeOf}
+use Rattle.board.specs.Place.{Placing, inPlace, placeNumber, placeOn, placeBy, placeOf}
 use Rattle.board.proofs.Places.{resume-in, resume-past}
 use Rattle.lister.specs.Moves.{Moves}
 
-module _ (bytes : List ℕ) (old : ℕ) (w : Settings) (chunk room page : List ℕ) where
+module _ (bytes : List ℕ) (old : ℕ) (w : Settings) (totals chunk room page : List ℕ) where
   abbrev held : List ℕ
   held = take old bytes
 
@@ -47,21 +47,21 @@ module _ (bytes : List ℕ) (old : ℕ) (w : Settings) (chunk room page : List �
   step-moves (Found k n good) e = found-moves k n good e
   step-moves (Starved k) e = record { inside = omega arith; fewer = λ z. let w : ⊥ = omega arith in absurd w }
 
-  place-moves : (m : ℕ) → Fine (placeOn m guardedRights bytes old w (fed chunk) room page .step)
+  place-moves : (m : ℕ) → Fine (placeOn m guardedRights bytes old w totals (fed chunk) room page .step)
   unfolding stepBy
   place-moves zero = step-moves (seek front (held ++ chunk)) refl
   place-moves (suc m) = record { inside = omega arith; fewer = λ z. let w : ⊥ = omega arith in absurd w }
 
-  feed-moves : (profile : Profile) → Fine (placeOf 0 bytes old 0 w profile chunk room page .step)
+  feed-moves : (profile : Profile) → Fine (placeOf 0 bytes old 0 w profile totals chunk room page .step)
   unfolding placeBy
-  feed-moves profile = place-moves (placeNumber 0 bytes old 0 w room page)
+  feed-moves profile = place-moves (placeNumber 0 bytes old 0 w totals room page)
 
-pub fed-moves : (bytes : List ℕ) (old : ℕ) (w : Settings) (profile : Profile) (chunk room page bytesAfter roomAfter pageAfter : List ℕ) (s : Stepped)
-    → record { step = s; bytes = bytesAfter; room = roomAfter; page = pageAfter } ≡ placeOf 0 bytes old 0 w profile chunk room page
+pub fed-moves : (bytes : List ℕ) (old : ℕ) (w : Settings) (profile : Profile) (totals chunk room page bytesAfter totalsAfter roomAfter pageAfter : List ℕ) (s : Stepped)
+    → record { step = s; bytes = bytesAfter; totals = totalsAfter; room = roomAfter; page = pageAfter } ≡ placeOf 0 bytes old 0 w profile totals chunk room page
     → Moves old chunk (s .number) (s .taken) (s .held)
-fed-moves bytes old w profile chunk room page bytesAfter roomAfter pageAfter s e =
-    let g : s ≡ placeOf 0 bytes old 0 w profile chunk room page .step = ap (λ (x : Stepping). x .step) e in
-    rw g (feed-moves bytes old w chunk room page profile)
+fed-moves bytes old w profile totals chunk room page bytesAfter totalsAfter roomAfter pageAfter s e =
+    let g : s ≡ placeOf 0 bytes old 0 w profile totals chunk room page .step = ap (λ (x : Placing). x .step) e in
+    rw g (feed-moves bytes old w totals chunk room page profile)
 
 -- In a piece of which `at` bytes are taken.
 module _ (piece : List ℕ) (at held number taken after : ℕ) (h : at ≤ length piece)

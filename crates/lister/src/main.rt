@@ -22,7 +22,7 @@ fn main() {
     );
     let all = output::gather_counts(totals[0], totals[1], end.held, end.used, &mut out);
     output::flush(all, &out);
-    output::write_totals(&totals, end.held);
+    output::write_totals(totals, end.held);
 }
 
 // Feeds the input in pieces of 32 KiB, and then once more, at its end, with nothing. Nothing says that an input ends, so the

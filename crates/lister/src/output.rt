@@ -90,24 +90,29 @@ pub(crate) fn gather_counts(
 
 // Puts a total behind `used` bytes of the text.
 fn put_total(n: u64, used: usize, text: &mut [u8]) -> usize
-    ensures { λ r. ⌜ used ≤ length (now (text .entry)) → r ≤ length (now (text .entry)) ⌝ }
+    ensures { λ r. ⌜ r ≤ length (now (text .entry)) ⌝ }
 {
     if text.len() < used {
-        return used;
+        return 0;
     }
     let written = listing::write_total(n, &mut text[used..]);
     used + written.length
 }
 
-// The totals of port 0, and what it holds, each on a line of its own.
-pub(crate) fn write_totals(totals: &[u64], held: usize) {
+// The totals of port 0, those of bytes and those of messages by error, and what it holds: each on a line of its own.
+pub(crate) fn write_totals(totals: [u64; 11], held: usize) {
     let mut text = [0u8; 252];
-    let mut used = 0;
-    let mut i = 0;
-    while i < totals.len() {
-        used = put_total(totals[i], used, &mut text);
-        i += 1;
-    }
-    let all = put_total(held as u64, used, &mut text);
+    let a = put_total(totals[0], 0, &mut text);
+    let b = put_total(totals[1], a, &mut text);
+    let c = put_total(totals[2], b, &mut text);
+    let e0 = put_total(totals[3], c, &mut text);
+    let e1 = put_total(totals[4], e0, &mut text);
+    let e2 = put_total(totals[5], e1, &mut text);
+    let e3 = put_total(totals[6], e2, &mut text);
+    let e4 = put_total(totals[7], e3, &mut text);
+    let e5 = put_total(totals[8], e4, &mut text);
+    let e6 = put_total(totals[9], e5, &mut text);
+    let e7 = put_total(totals[10], e6, &mut text);
+    let all = put_total(held as u64, e7, &mut text);
     io::write_all(3, prefix(&text, all));
 }

@@ -6,10 +6,10 @@ use Rattle.lister.proofs.list.Statement.{statement}
 use Rattle.lister.proofs.list.Tie as tie
 
 abbrev Inv-loop : tie.InvT-loop
-Inv-loop bytes₀ page₀ out₀ piece₀ p₀ turns₀ bytes page out piece p turns = (length bytes ≡ length bytes₀) × (length page ≡ length page₀) × (length out ≡ length out₀) × (length piece ≡ 32768)
+Inv-loop bytes₀ totals₀ page₀ out₀ piece₀ p₀ turns₀ bytes totals page out piece p turns = (length bytes ≡ length bytes₀) × (length totals ≡ length totals₀) × (length page ≡ length page₀) × (length out ≡ length out₀) × (length piece ≡ 32768)
 
 abbrev μ-loop : tie.MeasureT-loop
-μ-loop bytes₀ page₀ out₀ piece₀ p₀ turns₀ bytes page out piece p turns = turns
+μ-loop bytes₀ totals₀ page₀ out₀ piece₀ p₀ turns₀ bytes totals page out piece p turns = turns
 
 loop-holds : tie.Need-loop-holds Inv-loop μ-loop
 loop-holds c = search needs
@@ -59,6 +59,12 @@ same-length-5 c = search needs
 same-length-6 : tie.Need-same-length-6 Inv-loop μ-loop
 same-length-6 c = search needs
 
+same-length-7 : tie.Need-same-length-7 Inv-loop μ-loop
+same-length-7 c = search needs
+
+same-length-8 : tie.Need-same-length-8 Inv-loop μ-loop
+same-length-8 c = search needs
+
 returns-2 : tie.Need-returns-2 Inv-loop μ-loop
 returns-2 c = search needs
 
@@ -77,11 +83,13 @@ list-spec =
     same-length
     same-length-2
     same-length-3
+    same-length-4
     returns
     sub-turns
     loop-less
     loop-again
-    same-length-4
     same-length-5
     same-length-6
+    same-length-7
+    same-length-8
     returns-2)

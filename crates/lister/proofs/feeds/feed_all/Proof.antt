@@ -10,10 +10,10 @@ use Rattle.lister.proofs.feeds.feed_all.Statement.{statement}
 use Rattle.lister.proofs.feeds.feed_all.Tie as tie
 
 abbrev Inv-loop : tie.InvT-loop
-Inv-loop bytes₀ piece page₀ out₀ reply₀ p₀ at₀ bytes page out reply p at = (at ≤ length piece) × (length piece < 18446744073709551616) × (length bytes ≡ length bytes₀) × (length page ≡ length page₀) × (length out ≡ length out₀) × (length reply ≡ 166)
+Inv-loop bytes₀ totals₀ piece page₀ out₀ reply₀ p₀ at₀ bytes totals page out reply p at = (at ≤ length piece) × (length piece < 18446744073709551616) × (length bytes ≡ length bytes₀) × (length totals ≡ length totals₀) × (length page ≡ length page₀) × (length out ≡ length out₀) × (length reply ≡ 166)
 
 abbrev μ-loop : tie.MeasureT-loop
-μ-loop bytes₀ piece page₀ out₀ reply₀ p₀ at₀ bytes page out reply p at = p .held + (length piece - at)
+μ-loop bytes₀ totals₀ piece page₀ out₀ reply₀ p₀ at₀ bytes totals page out reply p at = p .held + (length piece - at)
 
 loop-holds : tie.Need-loop-holds Inv-loop μ-loop
 loop-holds c = search needs
@@ -42,12 +42,15 @@ same-length-2 c = search needs
 same-length-3 : tie.Need-same-length-3 Inv-loop μ-loop
 same-length-3 c = search needs
 
+same-length-4 : tie.Need-same-length-4 Inv-loop μ-loop
+same-length-4 c = search needs
+
 returns : tie.Need-returns Inv-loop μ-loop
 returns c = search needs
 
 add-at : tie.Need-add-at Inv-loop μ-loop
 add-at c =
-    let l : c .before .before .before .before .before .before .before .before .before .before .before .before .before .before .before .before .loop .at + c .before .before .before .before .before .before .before .before .before .before .feed .result .last ≤ length (now (c .before .before .before .before .before .before .before .before .before .before .before .before .before .before .before .before .before .before .before .before .before .args .piece)) = search (piece-inside, needs) in
+    let l : c .before .before .before .before .before .before .before .before .before .before .before .before .before .before .before .before .before .before .before .loop .at + c .before .before .before .before .before .before .before .before .before .before .before .before .feed .result .last ≤ length (now (c .before .before .before .before .before .before .before .before .before .before .before .before .before .before .before .before .before .before .before .before .before .before .before .before .before .args .piece)) = search (piece-inside, needs) in
     omega arith
 
 loop-less : tie.Need-loop-less Inv-loop μ-loop
@@ -71,6 +74,7 @@ feed-all-spec =
     same-length
     same-length-2
     same-length-3
+    same-length-4
     returns
     add-at
     loop-less

@@ -7,12 +7,6 @@ use Rattle.lister.proofs.feeds.Progress.feed.Tie as tie
 feed-in-place-requires : tie.Need-feed-in-place-requires
 feed-in-place-requires c κs = search needs
 
-wrapping-add-u64-requires : tie.Need-wrapping-add-u64-requires
-wrapping-add-u64-requires c κs = search needs
-
-wrapping-add-u64-requires-2 : tie.Need-wrapping-add-u64-requires-2
-wrapping-add-u64-requires-2 c κs = search needs
-
 gather-found-requires : tie.Need-gather-found-requires
 gather-found-requires c κs = search needs
 
@@ -28,6 +22,9 @@ same-length-3 c = search needs
 same-length-4 : tie.Need-same-length-4
 same-length-4 c = search needs
 
+same-length-5 : tie.Need-same-length-5
+same-length-5 c = search needs
+
 returns : tie.Need-returns
 returns c = search (fed-moves, needs)
 
@@ -36,11 +33,10 @@ feed-spec =
     tie.close
     (tie.spec
     feed-in-place-requires
-    wrapping-add-u64-requires
-    wrapping-add-u64-requires-2
     gather-found-requires
     same-length
     same-length-2
     same-length-3
     same-length-4
+    same-length-5
     returns)
