@@ -8,14 +8,30 @@
 use bench::files::File;
 use plain::generate::{fields, numbered, Rng};
 use std::io::Write;
-use std::path::Path;
+use std::path::{Path, PathBuf};
 use std::process::{Command, Stdio};
 use std::thread;
 
+fn program() -> PathBuf {
+    Path::new(env!("CARGO_MANIFEST_DIR")).join("../../target/bin/lister")
+}
+
 /// What the program prints for an input.
 fn listed(input: &[u8]) -> String {
-    let program = Path::new(env!("CARGO_MANIFEST_DIR")).join("../../target/bin/lister");
-    let mut child = Command::new(&program)
+    printed(&mut Command::new(program()), input)
+}
+
+/// What the program writes to descriptor 3 for an input: the totals of port 0, and what it holds.
+fn tallied(input: &[u8]) -> Vec<u64> {
+    let mut shell = Command::new("sh");
+    shell.arg("-c").arg("exec \"$0\" 3>&1 >/dev/null").arg(program());
+    printed(&mut shell, input).lines().map(|line| line.parse().expect("a number")).collect()
+}
+
+/// What a command prints for an input.
+fn printed(command: &mut Command, input: &[u8]) -> String {
+    let program = program();
+    let mut child = command
         .stdin(Stdio::piped())
         .stdout(Stdio::piped())
         .spawn()
@@ -28,6 +44,25 @@ fn listed(input: &[u8]) -> String {
         assert!(output.status.success());
         String::from_utf8(output.stdout).expect("text")
     })
+}
+
+/// The totals of a port that is fed an input, by the plain reading, and what it holds at the end.
+fn plainly_tallied(input: &[u8]) -> Vec<u64> {
+    let mut page = [0xFF; 64];
+    let (_, mut board) = plain::start(plain::Profile::Full, &page);
+    let mut taken = 0;
+    loop {
+        let mut room = [0; plain::Port::LONGEST_REPLY];
+        let fed = plain::feed(0, &board, &input[taken..], &mut room, &mut page);
+        taken += fed.taken;
+        board = fed.board;
+        if fed.number == plain::number::USED_UP {
+            break;
+        }
+    }
+    let plain::Tally { taken, skipped, good, errors } = board.tallies[0];
+    let held = board.ports[0].held as u64;
+    [taken, skipped, good].into_iter().chain(errors).chain([held]).collect()
 }
 
 /// Equal, or the first line that differs.
@@ -76,5 +111,20 @@ fn numbered_commands() {
     let mut rng = Rng::new(3);
     for _ in 0..40 {
         assert_same("numbered commands", &numbered::stream(&mut rng, 200));
+    }
+}
+
+/// The totals for service, of the recording cut anywhere and of files of all kinds.
+#[test]
+fn totals() {
+    let path = Path::new(env!("CARGO_MANIFEST_DIR")).join("../../samples/recording.bin");
+    let recording = std::fs::read(path).expect("the recording");
+    for end in 0..=recording.len() {
+        let part = &recording[..end];
+        assert_eq!(tallied(part), plainly_tallied(part), "the first {end} bytes of the recording");
+    }
+    for file in File::ALL {
+        let bytes = file.bytes(40 << 10);
+        assert_eq!(tallied(&bytes), plainly_tallied(&bytes), "{}", file.name());
     }
 }
