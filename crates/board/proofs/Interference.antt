@@ -4,6 +4,7 @@ use mathlib.Core.List.{List, [], _∷_, _++_}
 use mathlib.Core.Path.{_≡_, refl, sym, ap, subst, _∙_}
 use Prim.Native.Nat.{ℕ, zero, suc, _≤_}
 use lib.Dec.{eqb}
+use native.Mathlib.Omega.{arith}
 use lib.ListN.{length, drop}
 use Rattle.stream.specs.Scan.{Message}
 use Rattle.stream.specs.declared.Sought.{Sought}
@@ -30,9 +31,14 @@ use Rattle.board.specs.Start.{freshBoard, startOn, startOf}
 use Rattle.board.specs.Feed.{Feeding, PortStep, feedNumber, stepOn, stepBy, acceptOn, callOf}
 use Rattle.board.specs.Handling.{Kept, handleOn, handleMessage, keptTests}
 use Rattle.board.specs.Runs.{Call, callsFrom, callFrom, toldOf}
-use Rattle.board.specs.Interference.{Unchanged, SecondReads, Seen, seenOf, seenBy, NoInterference}
+use Rattle.board.specs.Interference.{Unchanged, SecondReads, Seen, seenOf, seenBy, NoInterference, TotalsUnseen}
 use Rattle.board.proofs.Feedings.{passed}
 use Rattle.board.proofs.Steps.{stateOf, Padded, Same, step-same}
+use Rattle.board.specs.declared.port.Port.{Port}
+use Rattle.totals.specs.declared.Tally.{Tally}
+use Rattle.totals.specs.Tally.{zeroTally, countedOf}
+use Rattle.board.specs.Totals.{recordBy}
+use Rattle.board.proofs.Tallied.{call-record, call-other, held-count}
 use Rattle.board.proofs.Begins.{fresh-padded}
 
 -- ---- port 1 changes nothing
@@ -70,8 +76,8 @@ second-reads p b i room page e = go (feedNumber (suc p) (b .first .held) (b .sec
         let r : Reads (b .settings) page (stepBy (rightsOf (b .readonly) (suc p)) (heldBytes (b .second)) (b .settings) i room page) =
         subst (λ (profile : Profile). Reads (b .settings) page (stepBy (rightsOf profile (suc p)) (heldBytes (b .second)) (b .settings) i room page)) (sym e)
         (step-reads (heldBytes (b .second)) (b .settings) i room page large) in
-        record { settings = r .settings; page-same = r .page-same; first = refl; unmarked = r .unmarked }
-    go (suc n) h = record { settings = refl; page-same = refl; first = refl; unmarked = refl }
+        record { settings = r .settings; page-same = r .page-same; first = refl; first-totals = refl; unmarked = r .unmarked }
+    go (suc n) h = record { settings = refl; page-same = refl; first = refl; first-totals = refl; unmarked = refl }
 
 -- ---- two runs
 
@@ -144,3 +150,56 @@ no-interference page cs cs′ e = go (pageNumber page)
         → seenBy cs (callsFrom (startOn n readOnly page .board) page cs .feedings) ≡ seenBy cs′ (callsFrom (startOn n readOnly page .board) page cs′ .feedings)
     go zero = fresh-unseen _ page cs cs′ e
     go (suc n) = fresh-unseen _ page cs cs′ e
+
+-- ---- port 0's totals
+
+-- They are told by what port 0 sees: a driver's record of it.
+abbrev seenTotals : ℕ → Tally → List Seen → Tally
+seenTotals before t [] = t
+seenTotals before t (s ∷ ss) =
+    seenTotals (length (s .held)) (countedOf t (s .out .number) (s .out .taken) (s .out .skipped) (s .out .error) before (length (s .held))) ss
+
+totals-seen : (cs : List Call) (b : Board) (page : List ℕ) → Padded b
+    → callsFrom b page cs .board .tally0 ≡ seenTotals (b .first .held) (b .tally0) (seenBy cs (callsFrom b page cs .feedings))
+unfolding callsFrom
+totals-seen [] b page k = refl
+totals-seen (c ∷ cs) b page k = totals-seen cs (f .answer .board) (f .page) padded ∙ go (eqb (c .port) 0) refl
+  where
+    f : Feeding
+    f = callOf (c .port) b (c .input) (c .room) page
+
+    padded : Padded (f .answer .board)
+    padded = step-same b page c k .padded
+
+    rest : List Seen
+    rest = seenBy cs (callsFrom (f .answer .board) (f .page) cs .feedings)
+
+    same-totals : {h i : ℕ} {x y : Tally} → h ≡ i → x ≡ y → seenTotals h x rest ≡ seenTotals i y rest
+    same-totals p q = rw (p, q)
+
+    counted : (t : Bool) → eqb (c .port) 0 ≡ t → recordBy t 0 b f (b .tally0) ≡ f .answer .board .tally0
+    counted t e = subst (λ (t : Bool). recordBy t 0 b f (b .tally0) ≡ f .answer .board .tally0) e (call-record 0 (c .port) b (c .input) (c .room) page (omega arith))
+
+    go : (t : Bool) → eqb (c .port) 0 ≡ t
+        → seenTotals (f .answer .board .first .held) (f .answer .board .tally0) rest ≡ seenTotals (b .first .held) (b .tally0) (onlyIf t (seenOf f) rest)
+    go true e =
+        let h : f .answer .board .first .held ≡ length (heldBytes (f .answer .board .first)) = held-count 0 (f .answer .board) padded in
+        same-totals h
+        (sym (counted true e)
+        ∙ ap (λ (i : ℕ). countedOf (b .tally0) (f .answer .number) (f .answer .taken) (f .answer .skipped) (f .answer .error) (b .first .held) i) h)
+    go false e = same-totals (ap (λ (p : Port). p .held) (call-other 0 (c .port) b (c .input) (c .room) page (omega arith) e)) (sym (counted false e))
+
+fresh-totals : (w : Settings) (page : List ℕ) (cs cs′ : List Call) → portZeroCalls (toldOf cs) ≡ portZeroCalls (toldOf cs′)
+    → callsFrom (freshBoard readOnly w) page cs .board .tally0 ≡ callsFrom (freshBoard readOnly w) page cs′ .board .tally0
+fresh-totals w page cs cs′ e =
+    totals-seen cs (freshBoard readOnly w) page (fresh-padded readOnly w)
+    ∙ ap (seenTotals 0 zeroTally) (fresh-unseen w page cs cs′ e)
+    ∙ sym (totals-seen cs′ (freshBoard readOnly w) page (fresh-padded readOnly w))
+
+pub totals-unseen : TotalsUnseen
+unfolding startOf
+totals-unseen page cs cs′ e = go (pageNumber page)
+  where
+    go : (n : ℕ) → callsFrom (startOn n readOnly page .board) page cs .board .tally0 ≡ callsFrom (startOn n readOnly page .board) page cs′ .board .tally0
+    go zero = fresh-totals _ page cs cs′ e
+    go (suc n) = fresh-totals _ page cs cs′ e

@@ -5,6 +5,7 @@ use Rattle.history.specs.Restarts.{drainedActs}
 use Rattle.message.specs.Message.{messageOf, sumsRight}
 use Rattle.message.specs.Front.{front}
 use Rattle.message.specs.Fields.{fieldsOf}
+use Rattle.totals.specs.Tally.{plusUpTo, countedWith}
 use Rattle.page.specs.Settings.{settingOf, usable, storable}
 use Rattle.page.specs.Page.{allStorable, writing, factoryPage}
 use Rattle.page.specs.Lookup.{entryFrom, entryOf, partOf, bodyOf, heldUnder, valuesIn}
@@ -27,6 +28,7 @@ use Rattle.board.specs.Examples.{ExampleLines}
 use Rattle.board.specs.Older.{OlderLines}
 use Rattle.board.specs.Quiet.{QuietLines}
 use Rattle.board.specs.ReadOnly.{ReadOnlyLines}
+use Rattle.board.specs.Tallied.{TalliedLines}
 
 pub sample-lines : SampleLines
 unfolding seek messageOf sumsRight front fieldsOf settingOf usable storable allStorable writing factoryPage entryFrom entryOf partOf bodyOf heldUnder valuesIn sound pageNumber pageWriting commandOf subjectOf fieldWrong fieldError commandError fieldOutcome fieldsOutcome commandOutcome messageOutcome receivedOf lookedUp loadedFrom startSettings answering settingsUsable portHolding startOf unsound feedNumber stepBy callOf callsFrom
@@ -47,3 +49,7 @@ quiet-lines = record { lines = refl; drained = refl }
 pub read-only-lines : ReadOnlyLines
 unfolding seek messageOf sumsRight front fieldsOf settingOf usable storable allStorable writing factoryPage entryFrom entryOf partOf bodyOf heldUnder valuesIn sound pageNumber pageWriting commandOf subjectOf fieldWrong fieldError commandError numberError fieldOutcome fieldsOutcome commandOutcome numberedOutcome messageOutcome receivedOf lookedUp loadedFrom startSettings answering settingsUsable portHolding startOf unsound feedNumber stepBy callOf carried actsFrom acceptedFrom callsFrom
 read-only-lines = record { lines = refl; same-calls = refl; seen = refl; seen-alike = refl }
+
+pub tallied-lines : TalliedLines
+unfolding seek messageOf sumsRight front fieldsOf settingOf usable storable allStorable writing factoryPage entryFrom entryOf partOf bodyOf heldUnder valuesIn sound pageNumber pageWriting commandOf subjectOf fieldWrong fieldError commandError numberError fieldOutcome fieldsOutcome commandOutcome numberedOutcome messageOutcome receivedOf lookedUp loadedFrom startSettings answering settingsUsable portHolding startOf unsound feedNumber stepBy callOf actsFrom plusUpTo countedWith
+tallied-lines = refl

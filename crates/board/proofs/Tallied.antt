@@ -37,7 +37,7 @@ use Rattle.board.specs.Runs.{Call, callFrom, Told, replyIn}
 use Rattle.board.specs.AnyBoard.{goodLength}
 use Rattle.board.specs.Histories.{feedingOf, actsFrom}
 use Rattle.board.specs.Restarts.{toldActs, startAnew}
-use Rattle.board.specs.Totals.{countsBy, countsFrom, CountsHistories, recordBy, recordFrom, RecordEquals}
+use Rattle.board.specs.Totals.{countsBy, countsFrom, CountsHistories, recordBy, recordFrom, RecordEquals, RecordFromStart}
 use Rattle.board.proofs.Begins.{start-fresh, start-padded, startKept, start-state, starts-alike}
 use Rattle.board.proofs.Feedings.{passed, by-number, calls-keep}
 use Rattle.board.proofs.Follows.{start-profile}
@@ -61,7 +61,7 @@ accepted-record (suc zero) (suc zero) b s hp hq = refl
 accepted-record (suc zero) (suc (suc q)) b s hp hq = absurd (omega arith)
 accepted-record (suc (suc p)) q b s hp hq = absurd (omega arith)
 
-call-record : (p q : ℕ) (b : Board) (i : Input) (room page : List ℕ) → p ≤ 1
+pub call-record : (p q : ℕ) (b : Board) (i : Input) (room page : List ℕ) → p ≤ 1
     → recordBy (eqb q p) p b (callOf q b i room page) (tallyAt p b) ≡ tallyAt p (callOf q b i room page .answer .board)
 unfolding callOf
 call-record p q b i room page hp = go (feedNumber q (b .first .held) (b .second .held) (b .settings) room page) refl
@@ -86,6 +86,10 @@ record-equals p b page (restart profile ∷ acts) hp =
     ap (λ (t : Tally). recordFrom p t (startOf profile page .board) page acts) (sym (start-zero p profile page))
     ∙ record-equals p (startOf profile page .board) page acts hp
 
+pub record-from-start : RecordFromStart
+record-from-start p profile page acts hp =
+    ap (λ (t : Tally). recordFrom p t (startOf profile page .board) page acts) (sym (start-zero p profile page)) ∙ record-equals p (startOf profile page .board) page acts hp
+
 -- ---- the counts from the history
 
 -- A port that a call does not name is left alone.
@@ -98,7 +102,7 @@ accepted-other (suc zero) (suc zero) b s hp hq e = absurd (let z : _≡_ {A = �
 accepted-other (suc zero) (suc (suc q)) b s hp hq e = absurd (omega arith)
 accepted-other (suc (suc p)) q b s hp hq e = absurd (omega arith)
 
-call-other : (p q : ℕ) (b : Board) (i : Input) (room page : List ℕ) → p ≤ 1 → eqb q p ≡ false → portOf p (callOf q b i room page .answer .board) ≡ portOf p b
+pub call-other : (p q : ℕ) (b : Board) (i : Input) (room page : List ℕ) → p ≤ 1 → eqb q p ≡ false → portOf p (callOf q b i room page .answer .board) ≡ portOf p b
 unfolding callOf
 call-other p q b i room page hp e = go (feedNumber q (b .first .held) (b .second .held) (b .settings) room page) refl
   where
@@ -106,7 +110,7 @@ call-other p q b i room page hp e = go (feedNumber q (b .first .held) (b .second
     go zero z = accepted-other p q b (stepBy (rightsOf (b .readonly) q) (heldBytes (portOf q b)) (b .settings) i room page) hp (passed q b room page z .few-ports) e
     go (suc n) z = refl
 
-held-count : (p : ℕ) (b : Board) → Padded b → portOf p b .held ≡ length (heldBytes (portOf p b))
+pub held-count : (p : ℕ) (b : Board) → Padded b → portOf p b .held ≡ length (heldBytes (portOf p b))
 held-count zero b k = count-is (b .first) (k .first)
 held-count (suc p) b k = count-is (b .second) (k .second)
 

@@ -17,12 +17,13 @@ use Rattle.board.specs.Runs.{Call, callsFrom, toldOf, Out, outOf}
 
 -- ---- port 1 changes nothing
 
--- A call of a port other than 0, of any board that is read-only, on any page: the working settings, the page and port 0 stay as they are,
--- and there is no mark of a save.
+-- A call of a port other than 0, of any board that is read-only, on any page: the working settings, the page and port 0 with its totals stay
+-- as they are, and there is no mark of a save.
 pub record Unchanged (b : Board) (page : List ℕ) (f : Feeding) : Type 0 where
   pub settings : f .answer .board .settings ≡ b .settings
   pub page-same : f .page ≡ page
   pub first : f .answer .board .first ≡ b .first
+  pub first-totals : f .answer .board .tally0 ≡ b .tally0
   pub unmarked : f .answer .saved ≡ false
 
 -- Proof: Interference `second-reads`.
@@ -59,3 +60,10 @@ seenOn page cs = seenBy cs (callsFrom (startOf readOnly page .board) page cs .fe
 -- `no-interference`.
 abbrev pub NoInterference : Type 0
 NoInterference = (page : List ℕ) (cs cs′ : List Call) → portZeroCalls (toldOf cs) ≡ portZeroCalls (toldOf cs′) → seenOn page cs ≡ seenOn page cs′
+
+-- With request 13: nor does port 1 touch port 0's totals. Two such lists leave them the same, and so do the beginnings of the two that end
+-- with one call of port 0, since their calls of port 0 are the same, too. Proof: Interference `totals-unseen`.
+abbrev pub TotalsUnseen : Type 0
+TotalsUnseen =
+    (page : List ℕ) (cs cs′ : List Call) → portZeroCalls (toldOf cs) ≡ portZeroCalls (toldOf cs′)
+    → callsFrom (startOf readOnly page .board) page cs .board .tally0 ≡ callsFrom (startOf readOnly page .board) page cs′ .board .tally0

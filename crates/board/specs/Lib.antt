@@ -18,6 +18,7 @@ pub mod Runs
 pub mod Samples
 pub mod Silences
 pub mod Start
+pub mod Tallied
 pub mod Theorems
 pub mod Totals
 pub mod Unprofiled

@@ -81,3 +81,9 @@ recordFrom p t b page (restart profile ∷ acts) = recordFrom p zeroTally (start
 -- `record-equals`.
 abbrev pub RecordEquals : Type 0
 RecordEquals = (p : ℕ) (b : Board) (page : List ℕ) (acts : List (Act Profile Call)) → p ≤ 1 → recordFrom p (tallyAt p b) b page acts ≡ tallyAt p (actsFrom b page acts .board)
+
+-- "Zero at the start." Proof: `record-from-start`.
+abbrev pub RecordFromStart : Type 0
+RecordFromStart =
+    (p : ℕ) (profile : Profile) (page : List ℕ) (acts : List (Act Profile Call)) → p ≤ 1
+    → recordFrom p zeroTally (startOf profile page .board) page acts ≡ tallyAt p (actsOn profile page acts .board)
