@@ -215,7 +215,15 @@ impl Bench {
         let saved = &mut page[0..p];
         if quiet && chunk.len() == 0 {
             return board::silence_in_place(
-                port, bytes, first, second, w, readonly, totals, replies, saved,
+                port,
+                bytes,
+                first,
+                second,
+                w,
+                readonly,
+                totals,
+                replies,
+                saved,
             );
         }
         board::call_in_place(

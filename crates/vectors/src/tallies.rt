@@ -27,7 +27,17 @@ pub(crate) fn outcome(verb: &[u8], args: &[u8], bench: Bench, out: Output) -> To
 pub(crate) fn row_of(t: Tally) -> [u64; 11] {
     let e = t.errors;
     [
-        t.taken, t.skipped, t.good, e[0], e[1], e[2], e[3], e[4], e[5], e[6], e[7],
+        t.taken,
+        t.skipped,
+        t.good,
+        e[0],
+        e[1],
+        e[2],
+        e[3],
+        e[4],
+        e[5],
+        e[6],
+        e[7],
     ]
 }
 
@@ -37,7 +47,14 @@ pub(crate) fn tally_of(row: [u64; 11]) -> Tally {
         skipped: row[1],
         good: row[2],
         errors: [
-            row[3], row[4], row[5], row[6], row[7], row[8], row[9], row[10],
+            row[3],
+            row[4],
+            row[5],
+            row[6],
+            row[7],
+            row[8],
+            row[9],
+            row[10],
         ],
     }
 }
