@@ -46,8 +46,8 @@ enum {
  * whose fields are not reached is answered as on any port (1, 2, 3 without a payload, 4). But a numbered command with right sums gets
  * one row with error 7 on port 1, whatever stands in it, and its number is not spent.
  * What is promised of a read-only board: whatever comes on port 1, in feeds and silences of any number, port 0 does not see it. Of
- * each call of port 0 the answer, the reply, what port 0 then holds, the working settings and the page are the same as with anything
- * else on port 1, or nothing. That is proved, of every list of calls, refused ones included.
+ * each call of port 0 the answer, the reply, what port 0 then holds, its totals, the working settings and the page are the same as with
+ * anything else on port 1, or nothing. That is proved, of every list of calls, refused ones included.
  * What is not: port 1 still learns the working settings, since function 2 reports them, and so what port 0 does to them; who reads
  * there can pass that on. Nor is time covered: how long a call takes, and when port 0 is served while much comes on port 1, is the
  * driver's affair.
@@ -59,7 +59,7 @@ enum {
     KETPHIROJ_DONE = 0,
     KETPHIROJ_CHUNK_USED_UP = 1, /* nothing more to report; after a silence nothing is held */
     KETPHIROJ_BAD_PORT = 16,     /* not 0 or 1 */
-    KETPHIROJ_BAD_BOARD = 17,    /* a port holds over 260 bytes, or a working value is none that this board works with */
+    KETPHIROJ_BAD_BOARD = 17,    /* a port holds over 260 bytes, or a working value is none that this board works with; or an array lent is not 260 bytes, or a row not 11 totals */
     KETPHIROJ_SHORT_ROOM = 18,   /* under 166 bytes for a feed or a silence, else shorter than what is to be written */
     KETPHIROJ_PAGE_LENGTH = 19,  /* a page is not 64 bytes */
     KETPHIROJ_BAD_PAGE = 20,     /* a page is neither blank nor sound */
@@ -108,13 +108,16 @@ typedef struct {
     /*
      * Messages by the first error in the reply, 0 to 7: of a command with several fields the first row's, so that 0 says nothing of the
      * fields behind it. What each number is for, to the letter, is said at `error` of ketphiroj_reply. To a service person it says
-     * 0: understood, and done; 1: damaged on the line, or noise that looked as a message; 2: a kind of message that this board does
-     * not know; 3: a setting that it does not know, or none named; 4: not well made, by a fault of the sender; 5: sent again, or
+     * 0: understood, and done; 1: damaged on the line, or noise that looked like a message; 2: a kind of message that this board does
+     * not know; 3: a code that it does not know, or no field; 4: not well made, by a fault of the sender; 5: sent again, or
      * without the number that is needed; 6: for an older board, which has more ranges; 7: not allowed on this port.
      * A bad line shows in `skipped` and in 1. The others came whole over the line: they tell of the sender.
      */
     uint64_t errors[8];
 } ketphiroj_tally;
+
+/* so that a record can be lent as a row; a compiler that packs it otherwise refuses this line */
+typedef char ketphiroj_tally_is_a_row[sizeof(ketphiroj_tally) == KETPHIROJ_TOTALS * sizeof(uint64_t) ? 1 : -1];
 
 typedef struct {
     ketphiroj_port first; /* port 0 */
@@ -316,8 +319,9 @@ static inline ketphiroj_stepped ketphiroj_silence_board(
  *   - calls this after every feed and every silence of that port, with the number, taken, skipped and error that were answered, with what
  *     the port held before the call as `before` (0 after a start, then the held of that port's last answer), and with the answer's held
  *     as `after`. Refused ones may be passed or left out: they change nothing.
- * A record that is kept so equals the board's totals of that port after each call. That is proved, of every list of calls and starts;
- * and so does one that is begun later, with the board's totals in place of zero.
+ * A record that is kept so equals the board's totals of that port after each call, and so does one that is begun later, with the board's
+ * totals in place of zero. That is proved, of every list of calls and starts. The board counts its own totals: to give this its tally0 or
+ * tally1 would count a call twice.
  * Any arguments are taken, and any record. A number above 1 changes nothing. With 0 and 1 the bytes taken and skipped are added, and to
  * the good ones taken plus before, less skipped, less after: at least 0, as whole numbers that do not wrap. Only number 0 counts a
  * message, under its error; an error above 7 is counted nowhere. Each total stops at its largest figure.

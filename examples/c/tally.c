@@ -194,9 +194,9 @@ static void print_bytes(uint8_t port) {
 static void print_messages(uint8_t port) {
     static const char *const meanings[8] = {
         "understood, and done",
-        "damaged on the line, or noise that looked as a message",
+        "damaged on the line, or noise that looked like a message",
         "a kind of message that this board does not know",
-        "a setting that it does not know, or none named",
+        "a code that it does not know, or no field",
         "not well made, by a fault of the sender",
         "sent again, or without the number that is needed",
         "for an older board, which has more ranges",

@@ -60,8 +60,8 @@ pub enum Profile {
     /// port 1, whatever stands in it, and its number is not spent.
     ///
     /// What is promised: whatever comes on port 1, in feeds and silences of any number, between those of port 0 or without
-    /// them, port 0 does not see it. Of each call of port 0 the outcome, the reply, what port 0 then holds, the working
-    /// settings and the page are the same. That is proved of the library, for every list of calls, refused ones included.
+    /// them, port 0 does not see it. Of each call of port 0 the outcome, the reply, what port 0 then holds, its totals, the
+    /// working settings and the page are the same. That is proved of the library, for every list of calls, refused ones included.
     ///
     /// What is not: port 1 still learns the working settings, since function 2 reports them, and so what port 0 does to them;
     /// who reads there can pass that on. Nor is time covered: how long a call takes, and when port 0 is served while much

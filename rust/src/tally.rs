@@ -60,8 +60,8 @@ pub struct Tally {
     pub good: u64,
     /// Messages by the first error in the reply, 0 to 7: of a command with several fields the first row's.
     ///
-    /// 0: done. 1: damaged on the line, or noise that looked as a message. 2: a type that the board does not know. 3: a setting that
-    /// it does not know, or none named. 4: a command that is not well made. 5: a command that was sent again, or has no number where it
+    /// 0: done. 1: damaged on the line, or noise that looked like a message. 2: a type that the board does not know. 3: a code that
+    /// it does not know, or no field. 4: a command that is not well made. 5: a command that was sent again, or has no number where it
     /// needs one. 6: a range that only older boards have. 7: a command that may not come on this port.
     pub errors: [u64; 8],
 }
@@ -76,8 +76,8 @@ impl Tally {
     /// port that it was of: what the call gave, and the bytes that the port held before it and after it.
     ///
     /// A record that is zero when the board is started, and in which every call of its port is counted, equals the board's totals of
-    /// that port after each of them. That is proved of the library; and so does one that is begun later, with the board's totals in
-    /// place of zero. A refusal counts nothing, and so may be passed or left out.
+    /// that port after each of them, and so does one that is begun later, with the board's totals in place of zero. That is proved of the
+    /// library. A refusal counts nothing, and so may be passed or left out.
     ///
     /// ```
     /// use ketphiroj::{Outcome, Refusal, Tally};
