@@ -10,8 +10,8 @@ use board::Stepped;
 use command::Settings;
 
 // A board on the settings that the page keeps; number 0. With 19 (not 64 bytes) or 20 (neither blank nor sound) it is a
-// board on the factory's settings. All totals are zero. With `readonly` port 1 may use Ping and function 2 only, for as long as the board is used, also
-// where the page is refused. Nothing is written.
+// board on the factory's settings. All totals are zero. With `readonly` port 1 may use Ping and function 2 only, for as
+// long as the board is used, also where the page is refused. Nothing is written.
 #[no_mangle]
 pub extern "C" fn ketphiroj_start(readonly: bool, page: &[u8]) -> Started
     ensures { λ r. ⌜ r ≡ startOf readonly (now (page .entry)) ⌝ }
@@ -20,9 +20,9 @@ pub extern "C" fn ketphiroj_start(readonly: bool, page: &[u8]) -> Started
 }
 
 // Starts a board that the caller keeps, without a copy of it: `first` and `second` are the 260 bytes of its ports, which are cleared;
-// both hold nothing then, and the caller sets their totals to zero. The answer has the settings that the page keeps, and the profile that was asked for; number 0. With 19 (not 64
-// bytes) or 20 (neither blank nor sound) the settings are the factory's, and the ports are cleared all the same, as in the board of
-// ketphiroj_start. 17: an array is not 260 bytes; nothing is written then.
+// both hold nothing then, and the caller sets their totals to zero. The answer has the settings that the page keeps, and the profile
+// that was asked for; number 0. With 19 (not 64 bytes) or 20 (neither blank nor sound) the settings are the factory's, and the ports
+// are cleared all the same, as in the board of ketphiroj_start. 17: an array is not 260 bytes; nothing is written then.
 #[no_mangle]
 pub extern "C" fn ketphiroj_start_in_place(
     readonly: bool,
