@@ -1,5 +1,5 @@
-// The board: two ports that hold unread bytes, with their totals, the working settings, the profile, starting, feeding and silences. The definitions that the
-// contracts cite stand in specs/.
+// The board: two ports that hold unread bytes, with their totals, the working settings, the profile, starting, feeding and silences.
+// The definitions that the contracts cite stand in specs/.
 mod board;
 mod calls;
 mod counting;
