@@ -13,16 +13,19 @@ use Rattle.word.specs.Word.{number}
 use Rattle.page.specs.declared.setting.Stored.{Stored}
 use Rattle.page.specs.declared.setting.Stored.the-variants.{Absent, Value}
 use Rattle.sample.specs.declared.axes.Axes.{Axes}
+use Rattle.sample.specs.declared.reader.Sample.{Sample}
+use Rattle.sample.specs.declared.reader.Sample.the-variants.{Acceleration, Rate, Unknown}
+use Rattle.sample.specs.declared.reader.FieldRead.{FieldRead}
 use Rattle.sample.specs.Axes.{keptOn, keptOf, axesFrom, axesOf, restored}
-use Rattle.sample.specs.Reader.{sampleOn, sampleOf, Found, sampleFound, readingOf, fieldRead}
+use Rattle.sample.specs.Reader.{sampleOn, sampleOf, Found, readingOf, readOn, fieldRead}
 use Rattle.sample.specs.Theorems.{Kept32, Single}
 use Rattle.sample.proofs.AxesBytes.{Bytes, take-bytes, drop-bytes}
-use Rattle.sample.proofs.Parts.{part-of-message}
+use Rattle.sample.proofs.Parts.{part-of-message, fields-located}
 use Rattle.sample.proofs.Patterns.{bits-back}
 use Rattle.sample.proofs.RoundTrips.{written-is-read}
 use Rattle.page.specs.Page.{isThere}
 use Rattle.capi.specs.Flat.{numberIn, storedFrom, flatAxes, flatOn, flatField}
-use Rattle.capi.specs.Theorems.{fieldReadFrom, FlatBack, Pattern, PatternsBack}
+use Rattle.capi.specs.Theorems.{fieldReadFrom, FlatBack, FlatFieldsLocated, Pattern, PatternsBack}
 
 stored-back : (s : Stored) → storedFrom (isThere s) (numberIn s) ≡ s
 stored-back Absent = refl
@@ -31,8 +34,9 @@ stored-back (Value x) = refl
 -- ---- axes that were made of patterns have these patterns
 
 module _ (x y z : ℕ) (hx : Pattern x) (hy : Pattern y) (hz : Pattern z) where
-  pub axes-patterns : (n code : ℕ) → flatAxes n code (axesFrom x y z) ≡ record { number = n; code = code; place = 0; x = x; y = y; z = z }
-  axes-patterns n code = rw (bits-back x hx, bits-back y hy, bits-back z hz)
+  pub axes-patterns : (n code place size : ℕ)
+      → flatAxes n code place size (axesFrom x y z) ≡ record { number = n; code = code; place = place; size = size; x = x; y = y; z = z }
+  axes-patterns n code place size = rw (bits-back x hx, bits-back y hy, bits-back z hz)
 
   pub axes-restored : restored (axesFrom x y z) ≡ axesFrom x y z
   axes-restored = rw (bits-back x hx, bits-back y hy, bits-back z hz)
@@ -58,26 +62,27 @@ four-pattern (a ∷ b ∷ []) h = omega (arith, h 0, h 1)
 four-pattern (a ∷ b ∷ c ∷ []) h = omega (arith, h 0, h 1, h 2)
 four-pattern (a ∷ b ∷ c ∷ d ∷ l) h = omega (arith, h 0, h 1, h 2, h 3)
 
-bytes-patterns : (bs : List ℕ) → Bytes bs → (n code : ℕ)
-    → flatAxes n code (axesOf bs) ≡ record { number = n; code = code; place = 0; x = number (take 4 bs); y = number (take 4 (drop 4 bs)); z = number (take 4 (drop 8 bs)) }
+bytes-patterns : (bs : List ℕ) → Bytes bs → (n code place size : ℕ)
+    → flatAxes n code place size (axesOf bs)
+    ≡ record { number = n; code = code; place = place; size = size; x = number (take 4 bs); y = number (take 4 (drop 4 bs)); z = number (take 4 (drop 8 bs)) }
 unfolding axesOf
-bytes-patterns bs h n code =
+bytes-patterns bs h n code place size =
     axes-patterns (number (take 4 bs)) (number (take 4 (drop 4 bs))) (number (take 4 (drop 8 bs)))
-    (four-pattern bs h) (four-pattern (drop 4 bs) (drop-bytes 4 bs h)) (four-pattern (drop 8 bs) (drop-bytes 8 bs h)) n code
+    (four-pattern bs h) (four-pattern (drop 4 bs) (drop-bytes 4 bs h)) (four-pattern (drop 8 bs) (drop-bytes 8 bs h)) n code place size
 
-found-back : (n : ℕ) (f : Found) → Bytes (f .field .content)
-    → fieldReadFrom (flatOn n (sampleOf (f .field) (f .place))) ≡ record { number = n; field = sampleOf (f .field) (f .place) }
+found-back : (n : ℕ) (f : Found) → Bytes (f .field .content) → fieldReadFrom (flatField (readOn n (some f))) ≡ readOn n (some f)
 unfolding sampleOf axesOf
 found-back n f h = go (eqb (f .field .code) 0x81) refl (eqb (f .field .code) 0x82) refl
   where
     go : (a : Bool) → eqb (f .field .code) 0x81 ≡ a → (r : Bool) → eqb (f .field .code) 0x82 ≡ r
-        → fieldReadFrom (flatOn n (sampleOn a r (f .field) (f .place))) ≡ record { number = n; field = sampleOn a r (f .field) (f .place) }
-    go true p r q = ap fieldReadFrom (bytes-patterns (f .field .content) h n 0x81)
-    go false p true q = ap fieldReadFrom (bytes-patterns (f .field .content) h n 0x82)
+        → fieldReadFrom (flatOn (sampleOn a r (f .field) (f .place)) (readOn n (some f)))
+        ≡ record { number = n; field = sampleOn a r (f .field) (f .place); place = f .place; size = f .field .size }
+    go true p r q = ap fieldReadFrom (bytes-patterns (f .field .content) h n 0x81 (f .place) (f .field .size))
+    go false p true q = ap fieldReadFrom (bytes-patterns (f .field .content) h n 0x82 (f .place) (f .field .size))
     go false p false q = rw (p, q)
 
 read-back : (n : ℕ) (o : Option Found) → ((f : Found) → o ≡ some f → Bytes (f .field .content))
-    → fieldReadFrom (flatOn n (sampleFound o)) ≡ record { number = n; field = sampleFound o }
+    → fieldReadFrom (flatField (readOn n o)) ≡ readOn n o
 read-back n none h = refl
 read-back n (some f) h = found-back n f (h f refl)
 
@@ -91,6 +96,26 @@ flat-back =
           rw (part-of-message m k f e .part) (take-bytes (f .field .size) (drop (f .place) m) (drop-bytes (f .place) m h)));
     }
 
+-- ---- a field in its message
+
+flat-place : (s : Sample) (r : FieldRead) → flatOn s r .place ≡ r .place
+flat-place (Acceleration a) r = refl
+flat-place (Rate a) r = refl
+flat-place (Unknown code place) r = refl
+
+flat-size : (s : Sample) (r : FieldRead) → flatOn s r .size ≡ r .size
+flat-size (Acceleration a) r = refl
+flat-size (Rate a) r = refl
+flat-size (Unknown code place) r = refl
+
+pub flat-fields-located : FlatFieldsLocated
+flat-fields-located m k =
+    let r = fieldRead m k in
+    let p = flat-place (r .field) r in
+    let s = flat-size (r .field) r in
+    let l = fields-located m k in
+    record { inside = rw (p, s) (l .inside); part = rw (p, s) (l .part) }
+
 -- ---- the data message of six patterns
 
 pub patterns-back : PatternsBack
@@ -99,8 +124,8 @@ patterns-back ax ay az rx ry rz hax hay haz hrx hry hrz =
     let r : Axes = axesFrom rx ry rz in
     let d = written-is-read a r (axes-single ax ay az hax hay haz) (axes-single rx ry rz hrx hry hrz) (axes-kept ax ay az hax hay haz) (axes-kept rx ry rz hrx hry hrz) in
     record {
-      acceleration = ap flatField (d .acceleration-back) ∙ ap (λ (x : Axes). flatAxes 0 0x81 x) (axes-restored ax ay az hax hay haz)
-          ∙ axes-patterns ax ay az hax hay haz 0 0x81;
-      rate = ap flatField (d .rate-back) ∙ ap (λ (x : Axes). flatAxes 0 0x82 x) (axes-restored rx ry rz hrx hry hrz)
-          ∙ axes-patterns rx ry rz hrx hry hrz 0 0x82;
+      acceleration = ap flatField (d .acceleration-back) ∙ ap (λ (x : Axes). flatAxes 0 0x81 6 12 x) (axes-restored ax ay az hax hay haz)
+          ∙ axes-patterns ax ay az hax hay haz 0 0x81 6 12;
+      rate = ap flatField (d .rate-back) ∙ ap (λ (x : Axes). flatAxes 0 0x82 20 12 x) (axes-restored rx ry rz hrx hry hrz)
+          ∙ axes-patterns rx ry rz hrx hry hrz 0 0x82 20 12;
     }

@@ -55,19 +55,19 @@ page-made v f e page w h = h ∙ ap (λ (x : Values). pageWriting x page) e
 
 -- ---- fields
 
-pub axes-flat : (number code : ℕ) (a : Axes) (x y z : ℕ) → x ≡ bitsOf (a .x) (a .«x_nan») → y ≡ bitsOf (a .y) (a .«y_nan»)
-    → z ≡ bitsOf (a .z) (a .«z_nan») → record { number = number; code = code; place = 0; x = x; y = y; z = z } ≡ flatAxes number code a
-axes-flat number code a x y z p q r = rw (p, q, r)
+pub axes-flat : (number code place size : ℕ) (a : Axes) (x y z : ℕ) → x ≡ bitsOf (a .x) (a .«x_nan») → y ≡ bitsOf (a .y) (a .«y_nan»)
+    → z ≡ bitsOf (a .z) (a .«z_nan») → record { number = number; code = code; place = place; size = size; x = x; y = y; z = z } ≡ flatAxes number code place size a
+axes-flat number code place size a x y z p q r = rw (p, q, r)
 
 module _ (r s : FieldRead) (e : r ≡ s) where
-  pub acceleration-flat : {a : Axes} → r .field ≡ Acceleration a → (f : FlatField) → f ≡ flatAxes (r .number) 0x81 a → f ≡ flatField s
+  pub acceleration-flat : {a : Axes} → r .field ≡ Acceleration a → (f : FlatField) → f ≡ flatAxes (r .number) 0x81 (r .place) (r .size) a → f ≡ flatField s
   acceleration-flat h f p = p ∙ rw (← e, h)
 
-  pub rate-flat : {a : Axes} → r .field ≡ Rate a → (f : FlatField) → f ≡ flatAxes (r .number) 0x82 a → f ≡ flatField s
+  pub rate-flat : {a : Axes} → r .field ≡ Rate a → (f : FlatField) → f ≡ flatAxes (r .number) 0x82 (r .place) (r .size) a → f ≡ flatField s
   rate-flat h f p = p ∙ rw (← e, h)
 
   pub unknown-flat : {code place : ℕ} → r .field ≡ Unknown code place
-      → record { number = r .number; code = code; place = place; x = 0; y = 0; z = 0 } ≡ flatField s
+      → record { number = r .number; code = code; place = r .place; size = r .size; x = 0; y = 0; z = 0 } ≡ flatField s
   unknown-flat h = rw (← e, h)
 
 -- ---- reading a page

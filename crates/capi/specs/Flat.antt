@@ -84,26 +84,28 @@ pagesNumber saved factory = firstNumber (pageNumber saved) (pageNumber factory)
 
 -- ---- a field of a data message
 
--- The patterns of three axes, under the field's code.
-abbrev pub flatAxes : ℕ → ℕ → Axes → FlatField
-flatAxes number code a =
+-- The patterns of three axes, under the field's code, and where its data stands.
+abbrev pub flatAxes : ℕ → ℕ → ℕ → ℕ → Axes → FlatField
+flatAxes number code place size a =
     record {
       number = number;
       code = code;
-      place = 0;
+      place = place;
+      size = size;
       x = bitsOf (a .x) (a .«x_nan»);
       y = bitsOf (a .y) (a .«y_nan»);
       z = bitsOf (a .z) (a .«z_nan»);
     }
 
--- A field by its code. What is refused is read as an unknown field of zeros, so all but the number is 0 then.
-abbrev pub flatOn : ℕ → Sample → FlatField
-flatOn number (Acceleration a) = flatAxes number 0x81 a
-flatOn number (Rate a) = flatAxes number 0x82 a
-flatOn number (Unknown code place) = record { number = number; code = code; place = place; x = 0; y = 0; z = 0 }
+-- A field by its code, with the place and the size of its data whatever it is. What is refused is read as an unknown field of zeros, so
+-- all but the number is 0 then.
+abbrev pub flatOn : Sample → FieldRead → FlatField
+flatOn (Acceleration a) r = flatAxes (r .number) 0x81 (r .place) (r .size) a
+flatOn (Rate a) r = flatAxes (r .number) 0x82 (r .place) (r .size) a
+flatOn (Unknown code place) r = record { number = r .number; code = code; place = r .place; size = r .size; x = 0; y = 0; z = 0 }
 
 abbrev pub flatField : FieldRead → FlatField
-flatField r = flatOn (r .number) (r .field)
+flatField r = flatOn (r .field) r
 
 -- A copy of bytes to a room: the number of the call that found them where it refuses, else 18 where the room is shorter than
 -- the bytes.

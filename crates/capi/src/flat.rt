@@ -18,15 +18,17 @@ pub struct FlatReply {
     pub value: u32,
 }
 
-// A field of a data message as read.
+// A field of a data message as read. C has no part of a message to be handed out: it has the place and the size of the data, of
+// every field, and takes the part itself (`FlatLocated`).
 #[repr(C)]
 pub struct FlatField {
     // document 01's number
     pub number: u8,
     // 0x81 is an acceleration, 0x82 a rate, any other an unknown field
     pub code: u8,
-    // the place in the message of an unknown field's first data byte; 0 with the other two
+    // the place in the message of the field's first data byte, and how many there are
     pub place: usize,
+    pub size: usize,
     // the patterns of the three axes; 0 with an unknown field
     pub x: u32,
     pub y: u32,

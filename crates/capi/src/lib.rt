@@ -9,6 +9,7 @@ mod flat;
 mod messages;
 mod pages;
 mod samples;
+mod version;
 
 pub use counting::ketphiroj_count;
 pub use feeding::ketphiroj_call_in_place;
@@ -32,3 +33,4 @@ pub use pages::ketphiroj_write_page;
 pub use samples::ketphiroj_copy_field;
 pub use samples::ketphiroj_read_field;
 pub use samples::ketphiroj_write_data;
+pub use version::ketphiroj_version;

@@ -13,20 +13,21 @@ use sample::axes_from_bits;
 use sample::bits_of;
 
 // An acceleration's or a rate's axes.
-fn flat_axes(number: u8, code: u8, a: Axes) -> FlatField
-    ensures { λ r. ⌜ r ≡ flatAxes number code a ⌝ }
+fn flat_axes(number: u8, code: u8, place: usize, size: usize, a: Axes) -> FlatField
+    ensures { λ r. ⌜ r ≡ flatAxes number code place size a ⌝ }
 {
     FlatField {
         number,
         code,
-        place: 0,
+        place,
+        size,
         x: bits_of(a.x, a.x_nan),
         y: bits_of(a.y, a.y_nan),
         z: bits_of(a.z, a.z_nan),
     }
 }
 
-// Field k, counted from 0, of a message: number 0. 21: not one whole message; 22: wrong sums; 23: not a data message; 24:
+// Field k, counted from 0, of a message: number 0; the `size` bytes from `place` on are its data. 21: not one whole message; 22: wrong sums; 23: not a data message; 24:
 // the fields do not fill the payload; 25: a field 81 or 82 is not 12 bytes; 27: no such field. All else is 0 then.
 #[no_mangle]
 pub extern "C" fn ketphiroj_read_field(message: &[u8], k: usize) -> FlatField
@@ -34,14 +35,17 @@ pub extern "C" fn ketphiroj_read_field(message: &[u8], k: usize) -> FlatField
 {
     let read = sample::read_field(message, k);
     let number = read.number;
+    let place = read.place;
+    let size = read.size;
     let field = read.field;
     match field {
-        Sample::Acceleration(a) => flat_axes(number, 0x81, a),
-        Sample::Rate(a) => flat_axes(number, 0x82, a),
-        Sample::Unknown(code, place) => FlatField {
+        Sample::Acceleration(a) => flat_axes(number, 0x81, place, size, a),
+        Sample::Rate(a) => flat_axes(number, 0x82, place, size, a),
+        Sample::Unknown(code, _) => FlatField {
             number,
             code,
             place,
+            size,
             x: 0,
             y: 0,
             z: 0,

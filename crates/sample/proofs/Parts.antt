@@ -1,5 +1,5 @@
 -- A field's data bytes are a part of the message; its code is kept; a record of proper axes is the one with its bits.
-use Prim.Native.Nat.{ℕ, zero, suc, _+_}
+use Prim.Native.Nat.{ℕ, zero, suc, _+_, _≤_}
 use native.Mathlib.Omega.{arith}
 use mathlib.Core.Path.{_≡_, refl, sym}
 use mathlib.Core.Bool.{Bool, true, false}
@@ -14,8 +14,8 @@ use Rattle.message.specs.Whole.{wholeNumber}
 use Rattle.message.specs.Fields.{Field, fieldBytes, rowBytes, SizesRight, fieldsOf}
 use Rattle.message.proofs.FieldRows.{fields-fill}
 use Rattle.message.proofs.RoundTrips.{passed}
-use Rattle.sample.specs.Reader.{sampleOn, sampleOf, codeOf, Found, fieldFrom, foundOn, someSizeWrong, sizesOn, fieldsOn, typeOn, wholeOn, readingOf}
-use Rattle.sample.specs.Theorems.{RecordBack, CodeKept, PartOf, PartOfMessage}
+use Rattle.sample.specs.Reader.{sampleOn, sampleOf, codeOf, Found, fieldFrom, foundOn, someSizeWrong, sizesOn, fieldsOn, typeOn, wholeOn, readingOf, fieldRead, fieldData}
+use Rattle.sample.specs.Theorems.{RecordBack, CodeKept, PartOf, PartOfMessage, Located, FieldsLocated}
 use Rattle.sample.proofs.Patterns.{axes-back}
 
 pub record-back : RecordBack
@@ -44,7 +44,10 @@ row-part before (g ∷ fs) after at zero f l s e =
     let shape : before ++ (rowBytes (g ∷ fs) ++ after) ≡ (before ++ g .code ∷ g .size ∷ []) ++ (g .content ++ rest) = simp append-assoc in
     let n : length (before ++ g .code ∷ g .size ∷ []) ≡ at + 2 = rw (length-append, l) in
     let d : drop (at + 2) (before ++ (rowBytes (g ∷ fs) ++ after)) ≡ g .content ++ rest = rw shape (drop-at (before ++ g .code ∷ g .size ∷ []) (g .content ++ rest) (at + 2) n) in
-    rw q (record { part = sym (rw d (take-at (g .content) rest (g .size) (sym (s .0)))); size = s .0 })
+    let fits : at + 2 + g .size ≤ length (before ++ (rowBytes (g ∷ fs) ++ after)) =
+    rw (shape, length-append, n, length-append) (omega (arith, s .0))
+    in
+    rw q (record { part = sym (rw d (take-at (g .content) rest (g .size) (sym (s .0)))); size = s .0; inside = fits })
 row-part before (g ∷ fs) after at (suc k) f l s e =
     let shape : before ++ (rowBytes (g ∷ fs) ++ after) ≡ (before ++ fieldBytes g) ++ (rowBytes fs ++ after) = simp append-assoc in
     let n : length (before ++ fieldBytes g) ≡ at + (2 + g .size) = rw (length-append, l, s .0) (omega arith) in
@@ -80,3 +83,13 @@ part-of-message m k f e = whole (wholeNumber m) refl e
     whole : (n : ℕ) → wholeNumber m ≡ n → wholeOn n m k .found ≡ some f → PartOf m f
     whole zero p q = type (eqb (typeOf m) 0xA2) p q
     whole (suc n) p q = let z : _≡_ {A = ℕ} 0 1 = cc in absurd (omega arith)
+
+pub fields-located : FieldsLocated
+unfolding fieldRead fieldData
+fields-located m k = go (readingOf m k .found) refl
+  where
+    go : (o : Option Found) → readingOf m k .found ≡ o → Located m k
+    go none e = record { inside = rw e (omega arith); part = rw e }
+    go (some f) e =
+        let p = part-of-message m k f e in
+        record { inside = rw e (p .inside); part = rw e (sym (p .part)) }

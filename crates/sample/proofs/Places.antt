@@ -14,8 +14,9 @@ use Rattle.message.proofs.RoundTrips.{passed}
 use Rattle.sample.specs.declared.reader.Place.{Place}
 use Rattle.sample.specs.declared.reader.Place.the-variants.{At, Refused}
 use Rattle.sample.specs.declared.reader.Sample.{Sample}
+use Rattle.sample.specs.declared.reader.FieldRead.{FieldRead}
 use Rattle.sample.specs.declared.reader.Sample.the-variants.{Unknown}
-use Rattle.sample.specs.Reader.{someSizeWrong, sampleOf, foundOn, fieldsOn, readingOf, fieldRead, fieldData}
+use Rattle.sample.specs.Reader.{someSizeWrong, sampleOf, foundOn, fieldsOn, readingOf, readOn, fieldRead, fieldData}
 use Rattle.sample.specs.Walk.{fieldAt, There, testedFrom, foundFrom, Walked, readingAt, Placed}
 use Rattle.sample.proofs.Walks.{no-field, walk-there, walk-finds}
 
@@ -87,6 +88,10 @@ module _ (m : List ℕ) where
 
 -- ---- the answers
 
+pub read-made : (p : List ℕ) (at : ℕ) (s : Sample) → s ≡ sampleOf (fieldAt p at) (at + 6)
+    → record { number = 0; field = s; place = at + 6; size = getD p (at + 1) 0 } ≡ readOn 0 (some (record { field = fieldAt p at; place = at + 6 }))
+read-made p at s es = rw es
+
 module _ (m : List ℕ) (k : ℕ) (r : Place) (placed : Placed m k r) where
   pub whole-there : {at : ℕ} → r ≡ At at → wholeNumber m ≡ 0
   whole-there e = (rw e at (placed .sound)) .0
@@ -94,7 +99,7 @@ module _ (m : List ℕ) (k : ℕ) (r : Place) (placed : Placed m k r) where
   pub field-there : (p : List ℕ) → p ≡ payloadOf m → {at : ℕ} → r ≡ At at → There p at
   field-there p ep e = rw ep ((rw e at (placed .sound)) .1)
 
-  pub read-refused : (n : ℕ) → r ≡ Refused n → record { number = n; field = Unknown 0 0 } ≡ fieldRead m k
+  pub read-refused : (n : ℕ) → r ≡ Refused n → record { number = n; field = Unknown 0 0; place = 0; size = 0 } ≡ fieldRead m k
   unfolding fieldRead
   read-refused n e = rw (← placed .reading, e)
 
@@ -103,9 +108,9 @@ module _ (m : List ℕ) (k : ℕ) (r : Place) (placed : Placed m k r) where
   data-refused e = rw (← placed .reading, e)
 
   module _ (at : ℕ) (e : r ≡ At at) (p : List ℕ) (ep : p ≡ payloadOf m) where
-    pub read-at : (s : Sample) → s ≡ sampleOf (fieldAt p at) (at + 6) → record { number = 0; field = s } ≡ fieldRead m k
+    pub read-at : (f : FieldRead) → f ≡ readOn 0 (some (record { field = fieldAt p at; place = at + 6 })) → f ≡ fieldRead m k
     unfolding fieldRead
-    read-at s es = rw (← placed .reading, e, es, ep)
+    read-at f ef = rw (← placed .reading, e, ef, ep)
 
     pub data-at : (d : List ℕ) → d ≡ fieldAt p at .content → d ≡ fieldData m k
     unfolding fieldData

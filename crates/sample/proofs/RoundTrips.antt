@@ -14,10 +14,9 @@ use Rattle.message.specs.Fields.{Field, rowBytes, SizesRight, fieldsOf}
 use Rattle.message.proofs.FieldRows.{fields-fill}
 use Rattle.message.proofs.RoundTrips.{written-is-read as message-back, read-is-written as message-again}
 use Rattle.sample.specs.declared.axes.Axes.{Axes}
-use Rattle.sample.specs.declared.reader.FieldRead.{FieldRead}
 use Rattle.sample.specs.declared.reader.Sample.the-variants.{Acceleration, Rate, Unknown}
 use Rattle.sample.specs.Axes.{axesOf, axesBytes}
-use Rattle.sample.specs.Reader.{sizeWrong, someSizeWrong, sampleOf, fieldFrom, foundOn, readingOf, fieldRead, fieldData}
+use Rattle.sample.specs.Reader.{sizeWrong, someSizeWrong, sampleOf, fieldFrom, Found, foundOn, readingOf, readOn, fieldRead, fieldData}
 use Rattle.sample.specs.Writer.{dataPayload, dataMessage}
 use Rattle.sample.specs.Theorems.{DataBack, Kept32, Single, WrittenIsRead, ReadIsWritten}
 use Rattle.sample.proofs.AxesBytes.{Bytes, axes-again, bytes-again, take-bytes, drop-bytes, front-bytes, rest-bytes}
@@ -137,21 +136,25 @@ module _ (a r : Axes) (f g : Field) (cf : f .code ≡ 0x81) (af : a ≡ axesOf (
       let eg : axesBytes r ≡ g .content = rw rg (bytes-again (g .content) lg (front-bytes (g .content) [] bg)) in
       rw (ef, eg, cf, cg, s .0, s .1, append-nil (g .content))
 
+read-number : (n : ℕ) (o : Option Found) → readOn n o .number ≡ n
+read-number n none = refl
+read-number n (some f) = refl
+
 -- There is a field 0, a field 1 and no field 2: two fields.
 pub read-is-written : ReadIsWritten
 unfolding fieldRead dataMessage
-read-is-written m a r bytes e0 e1 e2 = go (o .fields) refl
+read-is-written m a r bytes n0 e0 e1 e2 = go (o .fields) refl
   where
     o : Opened m
-    o = opened m (ap (λ (x : FieldRead). x .number) e0)
+    o = opened m (sym (read-number (readingOf m 0 .number) (readingOf m 0 .found)) ∙ n0)
 
     go : (fs : List Field) → o .fields ≡ fs → messageOf 0xA2 (dataPayload a r) ≡ m
-    go [] q = let z : _≡_ {A = ℕ} 27 0 = ap (λ (x : FieldRead). x .number) (rw (o .reads 0, q) at e0) in absurd (omega arith)
-    go (f ∷ []) q = let z : _≡_ {A = ℕ} 27 0 = ap (λ (x : FieldRead). x .number) (rw (o .reads 1, q) at e1) in absurd (omega arith)
-    go (f ∷ g ∷ h ∷ fs) q = let z : _≡_ {A = ℕ} 0 27 = ap (λ (x : FieldRead). x .number) (rw (o .reads 2, q) at e2) in absurd (omega arith)
+    go [] q = let s : Unknown 0 0 ≡ Acceleration a = rw (o .reads 0, q) at e0 in let z : _≡_ {A = ℕ} 0 1 = cc in absurd (omega arith)
+    go (f ∷ []) q = let s : Unknown 0 0 ≡ Rate r = rw (o .reads 1, q) at e1 in let z : _≡_ {A = ℕ} 0 1 = cc in absurd (omega arith)
+    go (f ∷ g ∷ h ∷ fs) q = let z : _≡_ {A = ℕ} 0 27 = rw (o .reads 2, q) at e2 in absurd (omega arith)
     go (f ∷ g ∷ []) q =
-        let sf : sampleOf f 6 ≡ Acceleration a = ap (λ (x : FieldRead). x .field) (rw (o .reads 0, q) at e0) in
-        let sg : sampleOf g (4 + (2 + f .size) + 2) ≡ Rate r = ap (λ (x : FieldRead). x .field) (rw (o .reads 1, q) at e1) in
+        let sf : sampleOf f 6 ≡ Acceleration a = rw (o .reads 0, q) at e0 in
+        let sg : sampleOf g (4 + (2 + f .size) + 2) ≡ Rate r = rw (o .reads 1, q) at e1 in
         let cf = is-acceleration f 6 a sf in
         let cg = is-rate g (4 + (2 + f .size) + 2) r sg in
         let fill = fields-fill (payloadOf m) (f ∷ g ∷ []) (o .filled ∙ ap some q) in

@@ -81,13 +81,13 @@ wholeOn (suc n) m k = record { number = suc n; found = none }
 unfoldable pub readingOf : List ℕ → ℕ → Reading
 readingOf m k = wholeOn (wholeNumber m) m k
 
--- A refusal gives zeros.
-abbrev pub sampleFound : Option Found → Sample
-sampleFound none = Unknown 0 0
-sampleFound (some f) = sampleOf (f .field) (f .place)
+-- What the field is, and where its data stands in the message, whatever it is. A refusal gives zeros.
+abbrev pub readOn : ℕ → Option Found → FieldRead
+readOn n none = record { number = n; field = Unknown 0 0; place = 0; size = 0 }
+readOn n (some f) = record { number = n; field = sampleOf (f .field) (f .place); place = f .place; size = f .field .size }
 
 unfoldable pub fieldRead : List ℕ → ℕ → FieldRead
-fieldRead m k = record { number = readingOf m k .number; field = sampleFound (readingOf m k .found) }
+fieldRead m k = readOn (readingOf m k .number) (readingOf m k .found)
 
 abbrev pub dataFound : Option Found → List ℕ
 dataFound none = []

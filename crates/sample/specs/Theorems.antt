@@ -1,5 +1,5 @@
 -- What is proved of data messages, beyond the contracts of the code. The proofs stand in proofs/.
-use Prim.Native.Nat.{ℕ, _<_}
+use Prim.Native.Nat.{ℕ, _+_, _≤_, _<_}
 use mathlib.Core.Path.{_≡_}
 use mathlib.Core.Bool.{true, false}
 use mathlib.Core.List.{List}
@@ -49,16 +49,26 @@ CodeKept = (f : Field) (place : ℕ) → codeOf (sampleOf f place) ≡ f .code
 pub record PartOf (m : List ℕ) (f : Found) : Type 0 where
   pub part : f .field .content ≡ take (f .field .size) (drop (f .place) m)
   pub size : f .field .size ≡ length (f .field .content)
+  pub inside : f .place + f .field .size ≤ length m
 
 abbrev pub PartOfMessage : Type 0
 PartOfMessage = (m : List ℕ) (k : ℕ) (f : Found) → readingOf m k .found ≡ some f → PartOf m f
 
+-- So whoever has the place and the size that the reader answers has the field's data in the message, without a copy: of whatever
+-- bytes and number it is asked, refused or not, they lie within the bytes, and what stands there is the part that is handed out.
+pub record Located (m : List ℕ) (k : ℕ) : Type 0 where
+  pub inside : fieldRead m k .place + fieldRead m k .size ≤ length m
+  pub part : take (fieldRead m k .size) (drop (fieldRead m k .place) m) ≡ fieldData m k
+
+abbrev pub FieldsLocated : Type 0
+FieldsLocated = (m : List ℕ) (k : ℕ) → Located m k
+
 -- What is written is read back: both fields, bit for bit, and the parts; there is no third field. It is 34 bytes.
 pub record DataBack (a r : Axes) : Type 0 where
   pub size : length (dataMessage a r) ≡ 34
-  pub acceleration-back : fieldRead (dataMessage a r) 0 ≡ record { number = 0; field = Acceleration (restored a) }
-  pub rate-back : fieldRead (dataMessage a r) 1 ≡ record { number = 0; field = Rate (restored r) }
-  pub no-third : fieldRead (dataMessage a r) 2 ≡ record { number = 27; field = Unknown 0 0 }
+  pub acceleration-back : fieldRead (dataMessage a r) 0 ≡ record { number = 0; field = Acceleration (restored a); place = 6; size = 12 }
+  pub rate-back : fieldRead (dataMessage a r) 1 ≡ record { number = 0; field = Rate (restored r); place = 20; size = 12 }
+  pub no-third : fieldRead (dataMessage a r) 2 ≡ record { number = 27; field = Unknown 0 0; place = 0; size = 0 }
   pub acceleration-part : fieldData (dataMessage a r) 0 ≡ axesBytes a
   pub rate-part : fieldData (dataMessage a r) 1 ≡ axesBytes r
 
@@ -75,5 +85,5 @@ WrittenIsRead = (a r : Axes) → Single a → Single r → Kept32 a → Kept32 r
 -- A message that reads as exactly these two fields is written back to the same bytes.
 abbrev pub ReadIsWritten : Type 0
 ReadIsWritten =
-    (m : List ℕ) (a r : Axes) → ((i : ℕ) → getD m i 0 < 256) → fieldRead m 0 ≡ record { number = 0; field = Acceleration a }
-    → fieldRead m 1 ≡ record { number = 0; field = Rate r } → fieldRead m 2 ≡ record { number = 27; field = Unknown 0 0 } → dataMessage a r ≡ m
+    (m : List ℕ) (a r : Axes) → ((i : ℕ) → getD m i 0 < 256) → fieldRead m 0 .number ≡ 0 → fieldRead m 0 .field ≡ Acceleration a
+    → fieldRead m 1 .field ≡ Rate r → fieldRead m 2 .number ≡ 27 → dataMessage a r ≡ m

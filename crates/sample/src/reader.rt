@@ -1,13 +1,14 @@
 // The data reader.
 ghost use mathlib.Core.Path.{_≡_};
 ghost use mathlib.Core.Bool.{false, _||_};
+ghost use mathlib.Core.Option.{some};
 ghost use Prim.Native.Nat.{_+_, _≤_, _<_};
 ghost use lib.Dec.{eqb};
 ghost use lib.ListN.{length, getD};
 ghost use Rattle.message.specs.Message.{payloadOf};
 ghost use Rattle.message.specs.Whole.{wholeNumber};
 ghost use Rattle.message.specs.Fields.{fieldsOf};
-ghost use Rattle.sample.specs.Reader.{sizeWrong, sampleOf, fieldRead, fieldData};
+ghost use Rattle.sample.specs.Reader.{sizeWrong, sampleOf, readOn, fieldRead, fieldData};
 ghost use Rattle.sample.specs.Walk.{fieldAt, There, testedFrom, Walked, Placed};
 use crate::axes::Axes;
 use crate::axes::axes_of;
@@ -23,11 +24,14 @@ pub enum Sample {
     Unknown(u8, usize),
 }
 
-// What the data reader answers. Where it refuses, the field is an unknown one of zeros.
+// What the data reader answers. Where it refuses, the field is an unknown one of zeros, and so are the place and the size.
 pub struct FieldRead {
     // document 01's number
     pub number: u8,
     pub field: Sample,
+    // the place in the message of the field's first data byte, and how many there are, whatever the field is
+    pub place: usize,
+    pub size: usize,
 }
 
 // Where a field of a message starts in its payload, or the number that refuses it.
@@ -41,13 +45,12 @@ pub fn read_field(message: &[u8], k: usize) -> FieldRead
     ensures { λ r. ⌜ r ≡ fieldRead (now (message .entry)) k ⌝ }
 {
     match find(message, k) {
-        Place::At(at) => FieldRead {
-            number: 0,
-            field: sample_at(payload_of(message), at),
-        },
+        Place::At(at) => read_at(payload_of(message), at),
         Place::Refused(number) => FieldRead {
             number: number,
             field: Sample::Unknown(0, 0),
+            place: 0,
+            size: 0,
         },
     }
 }
@@ -156,7 +159,20 @@ fn size_wrong(payload: &[u8], at: usize) -> bool
     has_axes(payload[at]) & (payload[at + 1] != 12)
 }
 
-// The field at `at`. Its data starts behind the message's four first bytes, and behind its own code and size.
+// What is answered of the field at `at`. Its data starts behind the message's four first bytes, and behind its own code and size.
+fn read_at(payload: &[u8], at: usize) -> FieldRead
+    requires { ⌜ There (now payload) at ⌝ }
+    ensures { λ r. ⌜ r ≡ readOn 0 (some (record { field = fieldAt (now (payload .entry)) at; place = at + 6 })) ⌝ }
+{
+    FieldRead {
+        number: 0,
+        field: sample_at(payload, at),
+        place: at + 6,
+        size: payload[at + 1] as usize,
+    }
+}
+
+// What the field at `at` is.
 fn sample_at(payload: &[u8], at: usize) -> Sample
     requires { ⌜ There (now payload) at ⌝ }
     ensures { λ r. ⌜ r ≡ sampleOf (fieldAt (now (payload .entry)) at) (at + 6) ⌝ }

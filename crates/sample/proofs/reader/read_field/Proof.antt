@@ -13,8 +13,8 @@ enum-known-at c = search needs
 payload-of-requires : tie.Need-payload-of-requires
 payload-of-requires c κs = search (whole-there, needs)
 
-sample-at-requires : tie.Need-sample-at-requires
-sample-at-requires c κs = search (field-there, needs)
+read-at-requires : tie.Need-read-at-requires
+read-at-requires c κs = search (field-there, needs)
 
 enum-known-number : tie.Need-enum-known-number
 enum-known-number c = search needs
@@ -32,7 +32,7 @@ read-field-spec =
     find-requires
     enum-known-at
     payload-of-requires
-    sample-at-requires
+    read-at-requires
     enum-known-number
     returns
     returns-2)
