@@ -1,5 +1,7 @@
 // The feeds of a listing.
 ghost use Rattle.lister.specs.Moves.{Moves};
+use crate::output::Gathered;
+use crate::output::flush;
 use crate::output::gather_rows;
 use crate::output::kind_of;
 use crate::output::payload_of;
@@ -16,12 +18,12 @@ pub struct Progress {
     // the last feed's number, and what it took
     number: u8,
     last: usize,
-    // how much of the output block is gathered
-    pub used: usize,
+    // what is to be printed
+    pub gathered: Gathered,
 }
 
 impl Progress {
-    pub(crate) fn start(page: &[u8], used: usize) -> Self {
+    pub(crate) fn start(page: &[u8], gathered: Gathered) -> Self {
         let started = board::start(Board::FULL, page);
         let settings = started.board.settings;
         Progress {
@@ -29,7 +31,21 @@ impl Progress {
             settings,
             number: 0,
             last: 0,
-            used,
+            gathered,
+        }
+    }
+
+    // The same with all that is gathered written.
+    pub(crate) fn flush(self, out: &[u8]) -> Self {
+        let settings = self.settings;
+        let before = self.gathered;
+        let gathered = flush(before, out);
+        Progress {
+            held: self.held,
+            settings,
+            number: self.number,
+            last: self.last,
+            gathered,
         }
     }
 
@@ -58,21 +74,29 @@ impl Progress {
             page,
         );
         let settings = fed.settings;
+        let before = self.gathered;
+        let gathered = gather_found(fed.number, reply, fed.saved, before, out);
         Progress {
             held: fed.held,
             settings,
             number: fed.number,
             last: fed.taken,
-            used: gather_found(fed.number, reply, fed.saved, self.used, out),
+            gathered,
         }
     }
 }
 
-fn gather_found(number: u8, reply: &[u8], saved: bool, used: usize, out: &mut [u8]) -> usize {
+fn gather_found(
+    number: u8,
+    reply: &[u8],
+    saved: bool,
+    before: Gathered,
+    out: &mut [u8],
+) -> Gathered {
     if number != 0 {
-        return used;
+        return before;
     }
-    gather_rows(kind_of(reply), payload_of(reply), saved, used, out)
+    gather_rows(kind_of(reply), payload_of(reply), saved, before, out)
 }
 
 // Feeds a piece until a feed answers 1. That a feed which answers 0 leaves fewer bytes, held or in the piece, is in the

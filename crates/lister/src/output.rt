@@ -1,5 +1,4 @@
-// What the program prints, gathered in a block that is written when the next line might not fit. Each function answers how
-// much of the block is gathered.
+// What the program prints, gathered in a block that is written when the next line might not fit, and before each read.
 ghost use Prim.Native.Nat.{_≤_};
 ghost use mathlib.Core.Path.{_≡_};
 ghost use lib.ListN.{length};
@@ -14,27 +13,41 @@ fn prefix(s: &[u8], n: usize) -> &[u8]
     &s[0..n]
 }
 
-pub(crate) fn flush(used: usize, out: &[u8]) -> usize
-    ensures { λ r. ⌜ r ≡ 0 ⌝ }
-{
-    io::write_all(1, prefix(out, used));
-    0
+// How much of the block is gathered, and whether all that was to be written until now has been.
+pub struct Gathered {
+    used: usize,
+    pub written: bool,
 }
 
-// Where the next `size` bytes may stand: behind what is gathered, or at the front once that is written.
-fn with_room(size: usize, used: usize, out: &[u8]) -> usize
-    ensures { λ r. ⌜ r ≤ length (now (out .entry)) ⌝ }
+// Writes what is gathered. After a write that failed nothing more is written: it would stand in the place of what is missing.
+pub(crate) fn flush(g: Gathered, out: &[u8]) -> Gathered
+    ensures { λ r. ⌜ r .used ≡ 0 ⌝ }
 {
-    if used < out.len() {
-        if size <= out.len() - used {
-            return used;
+    let mut written = g.written;
+    if written {
+        written = io::write_all(1, prefix(out, g.used));
+    }
+    Gathered { used: 0, written }
+}
+
+// The next `size` bytes stand behind what is gathered, or at the front once that is written.
+fn with_room(size: usize, g: Gathered, out: &[u8]) -> Gathered
+    ensures { λ r. ⌜ r .used ≤ length (now (out .entry)) ⌝ }
+{
+    if g.used < out.len() {
+        if size <= out.len() - g.used {
+            return g;
         }
     }
-    flush(used, out)
+    flush(g, out)
 }
 
-pub(crate) fn gather_heading(out: &mut [u8]) -> usize {
-    listing::write_heading(out).length
+pub(crate) fn gather_heading(out: &mut [u8]) -> Gathered {
+    let heading = listing::write_heading(out);
+    Gathered {
+        used: heading.length,
+        written: true,
+    }
 }
 
 // The type of a reply, and its payload, of at most 255 bytes.
@@ -58,34 +71,55 @@ fn count_of(n: u8) -> usize
 }
 
 // The lines of a message whose reply has this type and payload, one for each row: byte 2 of a row is the echo, byte 3 the error.
-pub(crate) fn gather_rows(kind: u8, rows: &[u8], saved: bool, start: usize, out: &mut [u8]) -> usize
+pub(crate) fn gather_rows(
+    kind: u8,
+    rows: &[u8],
+    saved: bool,
+    start: Gathered,
+    out: &mut [u8],
+) -> Gathered
     requires { ⌜ length (now rows) ≤ 255 ⌝ }
 {
-    let mut used = start;
+    let mut g = start;
     let mut at = 0;
     while at + 3 < rows.len() {
-        used = gather_line(kind, rows[at + 2], rows[at + 3], saved, used, out);
+        g = gather_line(kind, rows[at + 2], rows[at + 3], saved, g, out);
         at += listing::row_size(&rows[at..]);
     }
-    used
+    g
 }
 
-fn gather_line(kind: u8, echo: u8, error: u8, saved: bool, used: usize, out: &mut [u8]) -> usize {
-    let from = with_room(listing::LONGEST_LINE, used, out);
-    let written = listing::write_line(kind, echo, error, saved, &mut out[from..]);
-    from + written.length
+fn gather_line(
+    kind: u8,
+    echo: u8,
+    error: u8,
+    saved: bool,
+    before: Gathered,
+    out: &mut [u8],
+) -> Gathered {
+    let g = with_room(listing::LONGEST_LINE, before, out);
+    let from = g.used;
+    let line = listing::write_line(kind, echo, error, saved, &mut out[from..]);
+    Gathered {
+        used: from + line.length,
+        written: g.written,
+    }
 }
 
 pub(crate) fn gather_counts(
     taken: u64,
     skipped: u64,
     held: usize,
-    used: usize,
+    before: Gathered,
     out: &mut [u8],
-) -> usize {
-    let from = with_room(listing::LONGEST_COUNTS, used, out);
-    let written = listing::write_counts(taken, skipped, held, &mut out[from..]);
-    from + written.length
+) -> Gathered {
+    let g = with_room(listing::LONGEST_COUNTS, before, out);
+    let from = g.used;
+    let counts = listing::write_counts(taken, skipped, held, &mut out[from..]);
+    Gathered {
+        used: from + counts.length,
+        written: g.written,
+    }
 }
 
 // Puts a total behind `used` bytes of the text.
@@ -97,6 +131,11 @@ fn put_total(n: u64, used: usize, text: &mut [u8]) -> usize
     }
     let written = listing::write_total(n, &mut text[used..]);
     used + written.length
+}
+
+// Says what went wrong, on standard error. Where that cannot be written either, the totals that are missing say it.
+pub(crate) fn tell(what: &[u8]) {
+    io::write_all(2, what);
 }
 
 // The totals of port 0, those of bytes and those of messages by error, and what it holds: each on a line of its own.

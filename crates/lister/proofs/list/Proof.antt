@@ -14,20 +14,11 @@ abbrev μ-loop : tie.MeasureT-loop
 loop-holds : tie.Need-loop-holds Inv-loop μ-loop
 loop-holds c = search needs
 
-slice-aggregate-read-full : tie.Need-slice-aggregate-read-full Inv-loop μ-loop
-slice-aggregate-read-full c = search needs
+slice-aggregate-list-piece : tie.Need-slice-aggregate-list-piece Inv-loop μ-loop
+slice-aggregate-list-piece c = search needs
 
-read-full-requires : tie.Need-read-full-requires Inv-loop μ-loop
-read-full-requires c κs = search needs
-
-array-share-prefix-piece : tie.Need-array-share-prefix-piece Inv-loop μ-loop
-array-share-prefix-piece c = search needs
-
-slice-aggregate-feed-all : tie.Need-slice-aggregate-feed-all Inv-loop μ-loop
-slice-aggregate-feed-all c = search needs
-
-feed-all-requires : tie.Need-feed-all-requires Inv-loop μ-loop
-feed-all-requires c κs = search needs
+list-piece-requires : tie.Need-list-piece-requires Inv-loop μ-loop
+list-piece-requires c κs = search needs
 
 same-length : tie.Need-same-length Inv-loop μ-loop
 same-length c = search needs
@@ -37,6 +28,9 @@ same-length-2 c = search needs
 
 same-length-3 : tie.Need-same-length-3 Inv-loop μ-loop
 same-length-3 c = search needs
+
+same-length-4 : tie.Need-same-length-4 Inv-loop μ-loop
+same-length-4 c = search needs
 
 returns : tie.Need-returns Inv-loop μ-loop
 returns c = search needs
@@ -49,9 +43,6 @@ loop-less c = search needs
 
 loop-again : tie.Need-loop-again Inv-loop μ-loop
 loop-again c = search needs
-
-same-length-4 : tie.Need-same-length-4 Inv-loop μ-loop
-same-length-4 c = search needs
 
 same-length-5 : tie.Need-same-length-5 Inv-loop μ-loop
 same-length-5 c = search needs
@@ -75,11 +66,8 @@ list-spec =
     Inv-loop
     μ-loop
     loop-holds
-    slice-aggregate-read-full
-    read-full-requires
-    array-share-prefix-piece
-    slice-aggregate-feed-all
-    feed-all-requires
+    slice-aggregate-list-piece
+    list-piece-requires
     same-length
     same-length-2
     same-length-3

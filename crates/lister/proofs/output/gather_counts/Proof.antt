@@ -23,9 +23,9 @@ part-write-counts-end c = search needs
 write-counts-requires : tie.Need-write-counts-requires
 write-counts-requires c κs = search needs
 
-add-result : tie.Need-add-result
-add-result c =
-    let from = c .before .before .before .before .before .with-room .result in
+add-t12 : tie.Need-add-t12
+add-t12 c =
+    let from = c .before .before .before .before .before .with-room .result .used in
     let l : from + c .before .before .before .write-counts .result .length ≤ length (now (c .before .before .before .before .before .before .before .before .args .out)) = search (gathered-within, needs) in
     omega arith
 
@@ -44,6 +44,6 @@ gather-counts-spec =
     part-write-counts-start
     part-write-counts-end
     write-counts-requires
-    add-result
+    add-t12
     same-length
     returns)

@@ -23,9 +23,9 @@ part-write-line-end c = search needs
 write-line-requires : tie.Need-write-line-requires
 write-line-requires c κs = search needs
 
-add-result : tie.Need-add-result
-add-result c =
-    let from = c .before .before .before .before .before .with-room .result in
+add-t13 : tie.Need-add-t13
+add-t13 c =
+    let from = c .before .before .before .before .before .with-room .result .used in
     let l : from + c .before .before .before .write-line .result .length ≤ length (now (c .before .before .before .before .before .before .before .before .args .out)) = search (gathered-within, needs) in
     omega arith
 
@@ -44,6 +44,6 @@ gather-line-spec =
     part-write-line-start
     part-write-line-end
     write-line-requires
-    add-result
+    add-t13
     same-length
     returns)

@@ -7,10 +7,10 @@ use Rattle.lister.proofs.output.gather_rows.Statement.{statement}
 use Rattle.lister.proofs.output.gather_rows.Tie as tie
 
 abbrev Inv-loop : tie.InvT-loop
-Inv-loop kind rows saved start out₀ used₀ at₀ out used at = (length out ≡ length out₀) × (at < 1000)
+Inv-loop kind rows saved out₀ g₀ at₀ out g at = (length out ≡ length out₀) × (at < 1000)
 
 abbrev μ-loop : tie.MeasureT-loop
-μ-loop kind rows saved start out₀ used₀ at₀ out used at = 1000 - at
+μ-loop kind rows saved out₀ g₀ at₀ out g at = 1000 - at
 
 loop-holds : tie.Need-loop-holds Inv-loop μ-loop
 loop-holds c = search needs
