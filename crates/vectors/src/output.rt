@@ -8,6 +8,10 @@ use crate::text::prefix;
 pub struct Output {
     block: [u8; 512],
     used: usize,
+    // whether all that was to be written until now has been
+    written: bool,
+    // how many lines were not as they should be
+    pub faults: u64,
 }
 
 impl Output {
@@ -17,14 +21,40 @@ impl Output {
         Output {
             block: [0u8; 512],
             used: 0,
+            written: true,
+            faults: 0,
         }
     }
 
-    pub(crate) fn flush(self) -> Self
+    // After a write that failed nothing more is written: it would stand in the place of what is missing.
+    fn flush(self) -> Self
         ensures { λ r. ⌜ r .used ≡ 0 ⌝ }
     {
-        io::write_all(1, prefix(&self.block, self.used));
-        Output::new()
+        let mut out = Output::new();
+        out.faults = self.faults;
+        out.written = self.written;
+        if out.written {
+            out.written = io::write_all(1, prefix(&self.block, self.used));
+        }
+        out
+    }
+
+    // Writes what is left. A program has no exit status: where all was written, and only then, descriptor 3 is told how many lines
+    // were not as they should be. bin/vectors learns from it that the script was run to its end.
+    pub(crate) fn finish(self) {
+        let done = self.flush();
+        if !done.written {
+            io::write_all(2, b"vectors: standard output could not be written\n");
+            return;
+        }
+        io::print_decimal(3, done.faults);
+        io::write_all(3, b"\n");
+    }
+
+    // Writes what is left, and says why the script ends here.
+    pub(crate) fn stop(self, why: &[u8]) {
+        self.flush();
+        io::write_all(2, why);
     }
 
     fn with_room(self) -> Self
@@ -52,7 +82,29 @@ impl Output {
     }
 
     pub(crate) fn bad_line(self) -> Self {
-        self.text(b"bad line")
+        self.fault().text(b"bad line")
+    }
+
+    pub(crate) fn unknown_line(self) -> Self {
+        self.fault().text(b"unknown line")
+    }
+
+    fn fault(self) -> Self {
+        let mut out = self;
+        if out.faults < u64::MAX {
+            out.faults += 1;
+        }
+        out
+    }
+
+    // A line that was to be a fault, where there were `before` of them: it is none, and a line that is known is one.
+    pub(crate) fn expect_fault(self, before: u64) -> Self {
+        let mut out = self;
+        if out.faults > before {
+            out.faults = before;
+            return out;
+        }
+        out.text(b", which is no bad line").fault()
     }
 
     pub(crate) fn decimal(self, n: u64) -> Self {

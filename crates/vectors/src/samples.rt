@@ -20,7 +20,7 @@ pub(crate) fn outcome(verb: &[u8], args: &[u8], out: Output) -> Output {
     if text::same(verb, b"data") {
         return data(args, out);
     }
-    out.text(b"unknown line")
+    out.unknown_line()
 }
 
 fn field(args: &[u8], out: Output) -> Output {
@@ -32,7 +32,12 @@ fn field(args: &[u8], out: Output) -> Output {
         return out.bad_line();
     };
     let s = text::prefix(&room, n);
-    say_field(sample::read_field(s, k), out)
+    let read = sample::read_field(s, k);
+    say_field(read, out)
+        .text(b", ")
+        .decimal(read.size as u64)
+        .text(b" at ")
+        .decimal(read.place as u64)
         .text(b", data ")
         .bytes(sample::field_data(s, k))
 }

@@ -17,15 +17,16 @@ pub(crate) fn run(block: &mut [u8]) {
     let mut kept = 0;
     let mut turn = 0;
     while turn < BLOCKS {
-        let n = read_behind(block, kept);
+        let read = read_behind(block, kept);
+        let n = read.end;
         if n == kept {
-            finish(text::prefix(block, kept), bench, out);
+            finish(text::prefix(block, kept), read.failed, bench, out);
             return;
         }
         let whole = end_of_lines(block, n);
         kept = n - whole;
         if kept == block.len() {
-            out.text(b"line too long\n").flush();
+            out.stop(b"vectors: a line is too long\n");
             return;
         }
         let told = run_block(block, whole, kept, bench, out);
@@ -33,15 +34,35 @@ pub(crate) fn run(block: &mut [u8]) {
         out = told.out;
         turn += 1;
     }
-    out.text(b"script too long\n").flush();
+    out.stop(b"vectors: the script is too long\n");
 }
 
-// Reads on behind the first `kept` bytes, and answers where the bytes read end.
-fn read_behind(block: &mut [u8], kept: usize) -> usize
+// What a read gave: where its bytes end in the block. One that failed gave none.
+pub struct Read {
+    end: usize,
+    failed: bool,
+}
+
+// Reads on behind the first `kept` bytes.
+fn read_behind(block: &mut [u8], kept: usize) -> Read
     requires { ⌜ kept ≤ length (now block) ⌝ }
-    ensures { λ r. ⌜ (kept ≤ r) × (r ≤ length (now (block .exit))) ⌝ }
+    ensures { λ r. ⌜ (kept ≤ r .end) × (r .end ≤ length (now (block .exit))) ⌝ }
 {
-    kept + io::read_full(0, &mut block[kept..])
+    let read = read_once(&mut block[kept..]);
+    Read {
+        end: kept + read.end,
+        failed: read.failed,
+    }
+}
+
+fn read_once(block: &mut [u8]) -> Read
+    ensures { λ r. ⌜ r .end ≤ length (now (block .exit)) ⌝ }
+{
+    let got = libc::read(0, block);
+    Read {
+        end: io::count(got, block),
+        failed: got < 0,
+    }
 }
 
 // Runs the lines of the first `whole` bytes, and moves the `kept` bytes behind them to the front.
@@ -81,9 +102,13 @@ fn move_front(block: &mut [u8], from: usize, n: usize)
 }
 
 // The last line may have no end.
-fn finish(line: &[u8], bench: Bench, out: Output) {
+fn finish(line: &[u8], failed: bool, bench: Bench, out: Output) {
+    if failed {
+        out.stop(b"vectors: the script could not be read\n");
+        return;
+    }
     let told = run_lines(line, bench, out);
-    told.out.flush();
+    told.out.finish();
 }
 
 fn run_lines(lines: &[u8], start: Bench, before: Output) -> Told {
@@ -110,10 +135,24 @@ fn run_line(line: &[u8], bench: Bench, out: Output) -> Told {
     if line[0] == b'#' {
         return Told { bench, out: told };
     }
-    boards::outcome(
-        text::first_word(line),
-        text::other_words(line),
-        bench,
-        told.text(b": "),
-    )
+    if text::same(text::first_word(line), b"bad") {
+        return run_bad(text::other_words(line), bench, told.text(b": "));
+    }
+    run_verb(line, bench, told.text(b": "))
+}
+
+fn run_verb(line: &[u8], bench: Bench, out: Output) -> Told {
+    boards::outcome(text::first_word(line), text::other_words(line), bench, out)
+}
+
+// A line that must be one that is not known, or a bad one.
+fn run_bad(line: &[u8], bench: Bench, out: Output) -> Told {
+    let before = out.faults;
+    let told = run_verb(line, bench, out);
+    let after = told.bench;
+    let said = told.out;
+    Told {
+        bench: after,
+        out: said.expect_fault(before),
+    }
 }

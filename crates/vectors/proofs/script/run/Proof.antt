@@ -7,10 +7,10 @@ use Rattle.vectors.proofs.script.run.Statement.{statement}
 use Rattle.vectors.proofs.script.run.Tie as tie
 
 abbrev Inv-loop : tie.InvT-loop
-Inv-loop block₀ bench₀ out₀ kept₀ turn₀ t9 t10 block bench out kept turn = (length block ≡ length block₀) × (kept ≤ length block) × (turn ≤ 4294967296)
+Inv-loop block₀ bench₀ out₀ kept₀ turn₀ t10 t11 block bench out kept turn = (length block ≡ length block₀) × (kept ≤ length block) × (turn ≤ 4294967296)
 
 abbrev μ-loop : tie.MeasureT-loop
-μ-loop block₀ bench₀ out₀ kept₀ turn₀ t9 t10 block bench out kept turn = 4294967296 - turn
+μ-loop block₀ bench₀ out₀ kept₀ turn₀ t10 t11 block bench out kept turn = 4294967296 - turn
 
 blank-requires : tie.Need-blank-requires Inv-loop μ-loop
 blank-requires c κs = search needs
@@ -42,14 +42,11 @@ end-of-lines-requires c κs = search needs
 sub-kept : tie.Need-sub-kept Inv-loop μ-loop
 sub-kept c = search needs
 
-slice-aggregate-text : tie.Need-slice-aggregate-text Inv-loop μ-loop
-slice-aggregate-text c = search needs
+slice-aggregate-stop : tie.Need-slice-aggregate-stop Inv-loop μ-loop
+slice-aggregate-stop c = search needs
 
-text-requires : tie.Need-text-requires Inv-loop μ-loop
-text-requires c κs = search needs
-
-flush-requires : tie.Need-flush-requires Inv-loop μ-loop
-flush-requires c κs = search needs
+stop-requires : tie.Need-stop-requires Inv-loop μ-loop
+stop-requires c κs = search needs
 
 same-length-2 : tie.Need-same-length-2 Inv-loop μ-loop
 same-length-2 c = search needs
@@ -69,14 +66,11 @@ loop-less c = search needs
 loop-again : tie.Need-loop-again Inv-loop μ-loop
 loop-again c = search needs
 
-slice-aggregate-text-2 : tie.Need-slice-aggregate-text-2 Inv-loop μ-loop
-slice-aggregate-text-2 c = search needs
+slice-aggregate-stop-2 : tie.Need-slice-aggregate-stop-2 Inv-loop μ-loop
+slice-aggregate-stop-2 c = search needs
 
-text-requires-2 : tie.Need-text-requires-2 Inv-loop μ-loop
-text-requires-2 c κs = search needs
-
-flush-requires-2 : tie.Need-flush-requires-2 Inv-loop μ-loop
-flush-requires-2 c κs = search needs
+stop-requires-2 : tie.Need-stop-requires-2 Inv-loop μ-loop
+stop-requires-2 c κs = search needs
 
 same-length-3 : tie.Need-same-length-3 Inv-loop μ-loop
 same-length-3 c = search needs
@@ -100,17 +94,15 @@ run-spec =
     returns
     end-of-lines-requires
     sub-kept
-    slice-aggregate-text
-    text-requires
-    flush-requires
+    slice-aggregate-stop
+    stop-requires
     same-length-2
     returns-2
     run-block-requires
     add-turn
     loop-less
     loop-again
-    slice-aggregate-text-2
-    text-requires-2
-    flush-requires-2
+    slice-aggregate-stop-2
+    stop-requires-2
     same-length-3
     returns-3)
