@@ -40,6 +40,13 @@ static void feed(uint8_t port, const uint8_t *chunk, size_t length) {
     store_and_send(port, ketphiroj_feed_board(port, &board, chunk, length, room, sizeof room, page, sizeof page));
 }
 
+/* A command of one field, fed whole. */
+static void command(uint8_t port, uint8_t code, uint8_t function, uint32_t value) {
+    uint8_t message[KETPHIROJ_LONGEST_MESSAGE];
+    ketphiroj_written written = ketphiroj_write_command(code, function, value, message, sizeof message);
+    feed(port, message, written.length);
+}
+
 /* A silent line, all bytes of which have been fed: what is held is read to its end, the answer 1. Only then is the port fed again. */
 static void line_is_silent(uint8_t port) {
     ketphiroj_stepped answer;
@@ -64,24 +71,24 @@ static void print_rows(void) {
     printf("row %zu: number %u\n", row, reply.number);
 }
 
-/* Three settings in one command of type 02: the payload is built field by field. */
+/* Three settings in one command: the payload is built field by field. */
 static void use_three_settings(void) {
     static const struct {
         uint8_t code;
         uint32_t value;
-    } settings[] = {{0x01, 460800}, {0x07, 3}, {0x08, 5}};
-    uint8_t payload[255], message[KETPHIROJ_LONGEST_MESSAGE];
+    } settings[] = {{KETPHIROJ_CODE_BAUD, 460800}, {KETPHIROJ_CODE_ACCELEROMETER, 3}, {KETPHIROJ_CODE_GYROSCOPE, 5}};
+    uint8_t payload[KETPHIROJ_LONGEST_PAYLOAD], message[KETPHIROJ_LONGEST_MESSAGE];
     size_t length = 0;
     for (size_t i = 0; i < sizeof settings / sizeof settings[0]; i++) {
         ketphiroj_written field = ketphiroj_append_field(
-            0x02, settings[i].code, 1, settings[i].value, length, payload, sizeof payload);
+            KETPHIROJ_TYPE_CONFIGURATION, settings[i].code, KETPHIROJ_FUNCTION_USE, settings[i].value, length, payload, sizeof payload);
         if (field.number != KETPHIROJ_DONE) { /* the length would be 0, and what stands there lost */
             printf("field %zu: number %u\n", i, field.number);
             return;
         }
         length = field.length;
     }
-    ketphiroj_written use = ketphiroj_write_message(0x02, payload, length, message, sizeof message);
+    ketphiroj_written use = ketphiroj_write_message(KETPHIROJ_TYPE_CONFIGURATION, payload, length, message, sizeof message);
     feed(1, message, use.length);
     print_rows();
 }
@@ -91,21 +98,21 @@ int main(void) {
     memcpy(page, stored, sizeof page);
     uint8_t number = ketphiroj_start_board(&board, KETPHIROJ_FULL, page, sizeof page);
     printf("start: number %u, %u baud\n", number, board.settings.baud);
+    if (number != KETPHIROJ_DONE) { /* the page is refused: so would be every feed */
+        return 1;
+    }
 
     uint8_t message[KETPHIROJ_LONGEST_MESSAGE];
-    ketphiroj_written ping = ketphiroj_write_command(0x02, 0, 0, message, sizeof message);
+    ketphiroj_written ping = ketphiroj_write_command(KETPHIROJ_CODE_PING, 0, 0, message, sizeof message);
     static const uint8_t stray[] = {0xA5};
     feed(0, stray, sizeof stray);
     feed(0, message, 3);
     feed(0, message + 3, ping.length - 3);
     print_rows();
 
-    ketphiroj_written use = ketphiroj_write_command(0x01, 1, 921600, message, sizeof message);
-    feed(1, message, use.length);
+    command(1, KETPHIROJ_CODE_BAUD, KETPHIROJ_FUNCTION_USE, 921600);
     print_rows();
-
-    ketphiroj_written ask = ketphiroj_write_command(0x01, 2, 0, message, sizeof message);
-    feed(1, message, ask.length);
+    command(1, KETPHIROJ_CODE_BAUD, KETPHIROJ_FUNCTION_REPORT, 0);
     print_rows();
 
     use_three_settings();
@@ -113,11 +120,9 @@ int main(void) {
     printf("board: %u baud, ranges %u and %u\n", now.baud, now.accelerometer, now.gyroscope);
 
     static const uint8_t noise[] = {0xA5, 0xA5, 0x01, 0xFF};
-    ping = ketphiroj_write_command(0x02, 0, 0, message, sizeof message);
     feed(0, noise, sizeof noise);
-    feed(0, message, ping.length);
-    ketphiroj_written save = ketphiroj_write_command(0x01, 3, 0, message, sizeof message);
-    feed(0, message, save.length);
+    command(0, KETPHIROJ_CODE_PING, 0, 0);
+    command(0, KETPHIROJ_CODE_BAUD, KETPHIROJ_FUNCTION_SAVE, 0);
     feed(0, noise, sizeof noise);
     printf("port 0 holds %zu bytes, and is silent\n", board.first.held);
     line_is_silent(0);

@@ -1,11 +1,16 @@
 /*
- * Do C and the library see the same structs? The sizes and places of the fields, and for each field a call whose answer depends
- * on it. The exit status is 0 only where all agree.
+ * Do C and the library see the same structs, and mean the same by the header's names? The version; the sizes and places of the
+ * fields, and for each field a call whose answer depends on it; for each name bytes that depend on it. The exit status is 0 only where
+ * all agree.
  */
 #include "ketphiroj.h"
 
 #include <stdio.h>
 #include <string.h>
+
+#if KETPHIROJ_VERSION < 200
+#error "a header of before 0.2.0"
+#endif
 
 _Static_assert(sizeof(size_t) == 8, "size_t");
 _Static_assert(sizeof(bool) == 1, "bool");
@@ -32,8 +37,9 @@ _Static_assert(offsetof(ketphiroj_reply, kind) == 1 && offsetof(ketphiroj_reply,
 _Static_assert(offsetof(ketphiroj_reply, error) == 3 && offsetof(ketphiroj_reply, has_value) == 4, "reply");
 _Static_assert(offsetof(ketphiroj_reply, value) == 8 && sizeof(ketphiroj_reply) == 12, "reply");
 _Static_assert(offsetof(ketphiroj_field, code) == 1 && offsetof(ketphiroj_field, place) == 8, "field");
-_Static_assert(offsetof(ketphiroj_field, x) == 16 && offsetof(ketphiroj_field, y) == 20, "field");
-_Static_assert(offsetof(ketphiroj_field, z) == 24 && sizeof(ketphiroj_field) == 32, "field");
+_Static_assert(offsetof(ketphiroj_field, size) == 16 && offsetof(ketphiroj_field, x) == 24, "field");
+_Static_assert(offsetof(ketphiroj_field, y) == 28 && offsetof(ketphiroj_field, z) == 32, "field");
+_Static_assert(sizeof(ketphiroj_field) == 40, "field");
 _Static_assert(offsetof(ketphiroj_values, baud) == 4 && offsetof(ketphiroj_values, has_accelerometer) == 8, "values");
 _Static_assert(offsetof(ketphiroj_values, accelerometer) == 12 && offsetof(ketphiroj_values, has_gyroscope) == 16, "values");
 _Static_assert(offsetof(ketphiroj_values, gyroscope) == 20 && offsetof(ketphiroj_values, has_last_number) == 24, "values");
@@ -90,6 +96,11 @@ static bool same_board(ketphiroj_board a, ketphiroj_board b) {
         && same_tally(&a.tally1, &b.tally1);
 }
 
+/* The archive is the one of this header. */
+static void versions_agree(void) {
+    agree(ketphiroj_version() == KETPHIROJ_VERSION, "the version");
+}
+
 /* A refusal returns the board given, whatever stands in it. */
 static void refusal_returns_board(void) {
     ketphiroj_board board;
@@ -140,7 +151,7 @@ static void settings_are_looked_at(void) {
 /* Bytes are held in the port fed and are read there: a command begun by C is ended by a feed. */
 static void ports_hold_bytes(void) {
     uint8_t save[16];
-    size_t length = ketphiroj_write_command(0x08, 3, 0, save, sizeof save).length;
+    size_t length = ketphiroj_write_command(KETPHIROJ_CODE_GYROSCOPE, KETPHIROJ_FUNCTION_SAVE, 0, save, sizeof save).length;
     ketphiroj_board board = ketphiroj_start(KETPHIROJ_FULL, page, sizeof page).board;
     fed_board first = feed(0, board, save, 5);
     agree(first.answer.number == KETPHIROJ_CHUNK_USED_UP && first.answer.taken == 5, "taken");
@@ -191,13 +202,13 @@ static void bodies_pass(void) {
     uint8_t factory[KETPHIROJ_PAGE_SIZE];
     ketphiroj_written f = ketphiroj_factory_page(factory, sizeof factory);
     agree(f.number == KETPHIROJ_DONE && f.length == 64 && ketphiroj_check_page(factory, 64) == 0, "the factory page");
-    ketphiroj_written b = ketphiroj_copy_body(page, sizeof page, factory, sizeof factory, 0x01, room, 4);
+    ketphiroj_written b = ketphiroj_copy_body(page, sizeof page, factory, sizeof factory, KETPHIROJ_CODE_BAUD, room, 4);
     agree(b.number == KETPHIROJ_DONE && b.length == 4 && memcmp(room, "\x00\x00\x25\x80", 4) == 0, "a body");
-    b = ketphiroj_copy_body(page, sizeof page, factory, sizeof factory, 0x07, room, 1);
+    b = ketphiroj_copy_body(page, sizeof page, factory, sizeof factory, KETPHIROJ_CODE_ACCELEROMETER, room, 1);
     agree(b.number == KETPHIROJ_DONE && b.length == 1 && room[0] == 2, "a body of the factory page");
-    b = ketphiroj_copy_body(page, sizeof page, factory, sizeof factory, 0x02, room, 0);
+    b = ketphiroj_copy_body(page, sizeof page, factory, sizeof factory, KETPHIROJ_CODE_LAST_NUMBER, room, 0);
     agree(b.number == KETPHIROJ_DONE && b.length == 0, "no body");
-    b = ketphiroj_copy_body(page, sizeof page, factory, sizeof factory, 0x07, room, 0);
+    b = ketphiroj_copy_body(page, sizeof page, factory, sizeof factory, KETPHIROJ_CODE_ACCELEROMETER, room, 0);
     agree(b.number == KETPHIROJ_SHORT_ROOM && b.length == 0, "a body without room");
 }
 
@@ -215,13 +226,13 @@ static void refused_pages(void) {
     agree(r.number == KETPHIROJ_BAD_PAGE && same_values(r.values, none), "an unsound page read");
     r = ketphiroj_read_page(factory, sizeof factory);
     agree(r.number == KETPHIROJ_PAGE_LENGTH && same_values(r.values, none), "a page of 65 bytes read");
-    ketphiroj_written b = ketphiroj_copy_body(unsound, sizeof unsound, factory, sizeof factory, 0x01, room, 0);
+    ketphiroj_written b = ketphiroj_copy_body(unsound, sizeof unsound, factory, sizeof factory, KETPHIROJ_CODE_BAUD, room, 0);
     agree(b.number == KETPHIROJ_BAD_PAGE && b.length == 0, "a body of an unsound page");
-    b = ketphiroj_copy_body(factory, sizeof factory, unsound, sizeof unsound, 0x01, room, 0);
+    b = ketphiroj_copy_body(factory, sizeof factory, unsound, sizeof unsound, KETPHIROJ_CODE_BAUD, room, 0);
     agree(b.number == KETPHIROJ_PAGE_LENGTH && b.length == 0, "a body of a page of 65 bytes");
-    b = ketphiroj_copy_body(page, sizeof page, unsound, sizeof unsound, 0x01, room, 0);
+    b = ketphiroj_copy_body(page, sizeof page, unsound, sizeof unsound, KETPHIROJ_CODE_BAUD, room, 0);
     agree(b.number == KETPHIROJ_BAD_PAGE && b.length == 0, "a body beside an unsound factory page");
-    b = ketphiroj_copy_body(page, sizeof page, factory, sizeof factory, 0x01, room, 0);
+    b = ketphiroj_copy_body(page, sizeof page, factory, sizeof factory, KETPHIROJ_CODE_BAUD, room, 0);
     agree(b.number == KETPHIROJ_PAGE_LENGTH && b.length == 0, "a body beside a factory page of 65 bytes");
 }
 
@@ -259,15 +270,17 @@ static void fields_are_appended(void) {
     static const uint8_t expected[] = {0x01, 0x05, 0x01, 0x00, 0x0E, 0x10, 0x00, 0x08, 0x01, 0x03, 0x77};
     uint8_t payload[sizeof expected];
     memset(payload, 0x77, sizeof payload);
-    ketphiroj_written w = ketphiroj_append_field(0x02, 0x01, 1, 921600, 0, payload, sizeof payload);
+    const uint8_t kind = KETPHIROJ_TYPE_CONFIGURATION, code = KETPHIROJ_CODE_GYROSCOPE;
+    ketphiroj_written w =
+        ketphiroj_append_field(kind, KETPHIROJ_CODE_BAUD, KETPHIROJ_FUNCTION_USE, 921600, 0, payload, sizeof payload);
     agree(w.number == KETPHIROJ_DONE && w.length == 7, "a field with a value");
-    w = ketphiroj_append_field(0x02, 0x08, 3, 99, 7, payload, 10);
+    w = ketphiroj_append_field(kind, code, KETPHIROJ_FUNCTION_SAVE, 99, 7, payload, 10);
     agree(w.number == KETPHIROJ_DONE && w.length == 10, "a field without a value, behind it");
-    w = ketphiroj_append_field(0x02, 0x08, 1, 5, 8, payload, sizeof payload);
+    w = ketphiroj_append_field(kind, code, KETPHIROJ_FUNCTION_USE, 5, 8, payload, sizeof payload);
     agree(w.number == KETPHIROJ_SHORT_ROOM && w.length == 0, "a field without room");
-    w = ketphiroj_append_field(0x01, 0x02, 0, 0, SIZE_MAX, payload, sizeof payload);
+    w = ketphiroj_append_field(KETPHIROJ_TYPE_BASE, KETPHIROJ_CODE_PING, 0, 0, SIZE_MAX, payload, sizeof payload);
     agree(w.number == KETPHIROJ_SHORT_ROOM && w.length == 0, "a length over the room");
-    w = ketphiroj_append_field(0x01, 0x08, 3, 0, SIZE_MAX, payload, sizeof payload);
+    w = ketphiroj_append_field(KETPHIROJ_TYPE_BASE, code, KETPHIROJ_FUNCTION_SAVE, 0, SIZE_MAX, payload, sizeof payload);
     agree(w.number == KETPHIROJ_NO_COMMAND && w.length == 0, "a code of another type");
     agree(memcmp(payload, expected, sizeof expected) == 0, "the payload");
 }
@@ -278,18 +291,50 @@ static void patterns_pass(void) {
     ketphiroj_written d = ketphiroj_write_data(1, 2, 0xFFC01234, 0x80000000, 0x3F800000, 6, data, sizeof data);
     agree(d.number == KETPHIROJ_DONE && d.length == KETPHIROJ_DATA_SIZE, "a data message");
     ketphiroj_field a = ketphiroj_read_field(data, sizeof data, 0);
-    agree(a.number == 0 && a.code == 0x81 && a.place == 0 && a.x == 1 && a.y == 2 && a.z == 0xFFC01234, "acceleration");
+    agree(a.number == 0 && a.code == KETPHIROJ_CODE_ACCELERATION && data[4] == a.code, "acceleration");
+    agree(a.place == 6 && a.size == 12 && a.x == 1 && a.y == 2 && a.z == 0xFFC01234, "its place, size and axes");
     ketphiroj_field r = ketphiroj_read_field(data, sizeof data, 1);
-    agree(r.number == 0 && r.code == 0x82 && r.x == 0x80000000 && r.y == 0x3F800000 && r.z == 6, "rate");
+    agree(r.number == 0 && r.code == KETPHIROJ_CODE_RATE && data[18] == r.code, "rate");
+    agree(r.place == 20 && r.size == 12 && r.x == 0x80000000 && r.y == 0x3F800000 && r.z == 6, "its place, size and axes");
     ketphiroj_field n = ketphiroj_read_field(data, sizeof data, SIZE_MAX);
-    agree(n.number == KETPHIROJ_NO_FIELD && n.code == 0 && n.x == 0, "no such field");
-    ketphiroj_written m = ketphiroj_write_message(0xA2, (const uint8_t *) "\x90\x03" "abc", 5, room, sizeof room);
+    agree(n.number == KETPHIROJ_NO_FIELD && n.code == 0 && n.place == 0 && n.size == 0 && n.x == 0, "no such field");
+}
+
+/* Fields that the library does not know, of 3 and of no data bytes: place and size, and a copy. */
+static void unknown_fields_pass(void) {
+    static const uint8_t payload[] = {0x90, 3, 'a', 'b', 'c', 0x91, 0};
+    ketphiroj_written m = ketphiroj_write_message(KETPHIROJ_TYPE_DATA, payload, sizeof payload, room, sizeof room);
+    agree(ketphiroj_check_message(room, m.length) == KETPHIROJ_DONE && room[2] == 0xA2, "a whole message");
     ketphiroj_field u = ketphiroj_read_field(room, m.length, 0);
-    agree(u.number == 0 && u.code == 0x90 && u.place == 6, "an unknown field");
+    agree(u.number == 0 && u.code == 0x90 && u.place == 6 && u.size == 3 && u.x == 0, "an unknown field");
     uint8_t bytes[3];
     ketphiroj_written c = ketphiroj_copy_field(room, m.length, 0, bytes, sizeof bytes);
     agree(c.number == 0 && c.length == 3 && memcmp(bytes, "abc", 3) == 0, "its bytes");
-    agree(ketphiroj_check_message(room, m.length) == 0, "a whole message");
+    agree(memcmp(room + u.place, bytes, u.size) == 0, "its bytes in place");
+    u = ketphiroj_read_field(room, m.length, 1);
+    agree(u.number == 0 && u.code == 0x91 && u.place == 11 && u.size == 0, "an unknown field without data");
+    c = ketphiroj_copy_field(room, m.length, 1, bytes, 0);
+    agree(c.number == 0 && c.length == 0, "nothing to copy");
+    room[4]++;
+    u = ketphiroj_read_field(room, m.length, 0);
+    agree(u.number == KETPHIROJ_BAD_SUMS && u.code == 0 && u.place == 0 && u.size == 0, "a refused field");
+}
+
+/* The largest field there is needs a room of KETPHIROJ_FIELD_ROOM bytes, and no more. */
+static void largest_field_passes(void) {
+    uint8_t payload[KETPHIROJ_LONGEST_PAYLOAD], bytes[KETPHIROJ_FIELD_ROOM];
+    memset(payload, 0x31, sizeof payload);
+    payload[1] = sizeof payload - 2;
+    ketphiroj_written m = ketphiroj_write_message(KETPHIROJ_TYPE_DATA, payload, sizeof payload, room, sizeof room);
+    agree(m.number == KETPHIROJ_DONE && m.length == KETPHIROJ_LONGEST_MESSAGE, "the longest message");
+    ketphiroj_field f = ketphiroj_read_field(room, m.length, 0);
+    agree(f.number == KETPHIROJ_DONE && f.place == 6 && f.size == KETPHIROJ_FIELD_ROOM, "the largest field");
+    ketphiroj_written c = ketphiroj_copy_field(room, m.length, 0, bytes, sizeof bytes - 1);
+    agree(c.number == KETPHIROJ_SHORT_ROOM && c.length == 0, "a room that is a byte short");
+    c = ketphiroj_copy_field(room, m.length, 0, bytes, sizeof bytes);
+    agree(c.number == KETPHIROJ_DONE && c.length == sizeof bytes && memcmp(bytes, payload + 2, c.length) == 0, "its copy");
+    c = ketphiroj_write_message(KETPHIROJ_TYPE_DATA, room, KETPHIROJ_LONGEST_PAYLOAD + 1, payload, sizeof payload);
+    agree(c.number == KETPHIROJ_LONG_PAYLOAD, "a payload that is a byte too long");
 }
 
 static const uint8_t set_accelerometer[] = {0xA5, 0xA5, 0x02, 0x04, 0x07, 0x02, 0x01, 0x03, 0x5D, 0xF2};
@@ -353,6 +398,26 @@ static void silent_arrays_are_measured(void) {
             agree(s.number == KETPHIROJ_BAD_BOARD && s.skipped == 0 && s.held == 15, "a silence of another array");
             agree(s.settings.accelerometer == 1 && memcmp(bytes, given, sizeof given) == 0, "what is refused");
         }
+    }
+}
+
+/* Of a port that there is none of, the held count that is answered is the second one, as given; nothing is written. */
+static void ports_are_two(void) {
+    static const uint8_t ports[] = {2, 3, 255};
+    uint8_t bytes[KETPHIROJ_PORT_ROOM], given[sizeof bytes];
+    memset(bytes, 0x31, sizeof bytes);
+    memcpy(given, bytes, sizeof given);
+    uint64_t totals[KETPHIROJ_TOTALS] = {0}, zeros[KETPHIROJ_TOTALS] = {0};
+    ketphiroj_settings settings = {9600, 1, 5};
+    for (size_t i = 0; i < sizeof ports; i++) {
+        ketphiroj_stepped fed = ketphiroj_feed_in_place(
+            ports[i], bytes, sizeof bytes, 4, 9, settings, false, totals, KETPHIROJ_TOTALS, set_accelerometer,
+            sizeof set_accelerometer, room, sizeof room, page, sizeof page);
+        agree(fed.number == KETPHIROJ_BAD_PORT && fed.held == 9 && fed.settings.accelerometer == 1, "a feed of no port");
+        ketphiroj_stepped quiet = ketphiroj_silence_in_place(
+            ports[i], bytes, sizeof bytes, 4, 9, settings, false, totals, KETPHIROJ_TOTALS, room, sizeof room, page, sizeof page);
+        agree(quiet.number == KETPHIROJ_BAD_PORT && quiet.held == 9 && quiet.settings.accelerometer == 1, "a silence of no port");
+        agree(memcmp(bytes, given, sizeof given) == 0 && memcmp(totals, zeros, sizeof zeros) == 0, "what no port leaves");
     }
 }
 
@@ -467,20 +532,23 @@ static void numbers_pass(void) {
         0xA5, 0xA5, 0x7C, 0x09, 0xFE, 0xDC, 0xBA, 0x98, 0x02, 0x08, 0x02, 0x01, 0x05, 0x0D, 0x76, 0x77};
     uint8_t message[sizeof expected];
     memset(message, 0x77, sizeof message);
-    ketphiroj_written w = ketphiroj_write_numbered(0xFEDCBA98, 0x08, 1, 5, message, sizeof message);
+    const uint8_t code = KETPHIROJ_CODE_GYROSCOPE, function = KETPHIROJ_FUNCTION_USE;
+    ketphiroj_written w = ketphiroj_write_numbered(0xFEDCBA98, code, function, 5, message, sizeof message);
     agree(w.number == KETPHIROJ_DONE && w.length == 15 && memcmp(message, expected, sizeof expected) == 0, "a number");
-    w = ketphiroj_write_numbered(1, 0x08, 1, 6, message, 0);
+    w = ketphiroj_write_numbered(1, code, function, 6, message, 0);
     agree(w.number == KETPHIROJ_NO_COMMAND && w.length == 0, "a numbered command that is none");
-    w = ketphiroj_write_numbered(1, 0x08, 1, 5, message, 14);
+    w = ketphiroj_write_numbered(1, code, function, 5, message, 14);
     agree(w.number == KETPHIROJ_SHORT_ROOM && w.length == 0, "a numbered command without room");
     memset(page, 0xFF, sizeof page);
     fed_board fed = feed(0, ketphiroj_start(KETPHIROJ_FULL, page, sizeof page).board, message, 15);
     agree(fed.answer.number == KETPHIROJ_DONE && fed.answer.saved && fed.board.settings.gyroscope == 5, "a number taken");
     agree(keeps((ketphiroj_values){false, 0, false, 0, false, 0, true, 0xFEDCBA98}), "the number that a page keeps");
+    w = ketphiroj_copy_body(page, sizeof page, page, sizeof page, KETPHIROJ_CODE_LAST_NUMBER, room, 4);
+    agree(w.number == KETPHIROJ_DONE && w.length == 4 && memcmp(room, expected + 4, 4) == 0, "its bytes");
     fed = feed(1, fed.board, message, 15);
     agree(fed.answer.number == KETPHIROJ_DONE && !fed.answer.saved, "a number again");
     ketphiroj_reply r = ketphiroj_read_reply(room, 6u + room[3], 0);
-    agree(r.number == KETPHIROJ_DONE && r.kind == KETPHIROJ_NUMBERED && r.echo == 0x08 && r.error == 5, "error 5");
+    agree(r.number == KETPHIROJ_DONE && r.kind == KETPHIROJ_NUMBERED && r.echo == code && r.error == 5, "error 5");
 }
 
 /* A page that keeps a gyroscope's range of older boards: the start, error 6 of a load, and what the writer and the reader know. */
@@ -492,12 +560,15 @@ static void old_ranges_pass(void) {
     agree(started.number == KETPHIROJ_DONE && started.board.settings.gyroscope == 3, "a start on an old page");
     started.board.settings.gyroscope = 5;
     uint8_t load[9];
-    agree(ketphiroj_write_command(0x08, 4, 7, load, sizeof load).number == KETPHIROJ_DONE, "a load written");
+    const uint8_t code = KETPHIROJ_CODE_GYROSCOPE;
+    ketphiroj_written w = ketphiroj_write_command(code, KETPHIROJ_FUNCTION_LOAD, 7, load, sizeof load);
+    agree(w.number == KETPHIROJ_DONE && w.length == sizeof load, "a load written");
     fed_board fed = feed(0, started.board, load, sizeof load);
     agree(fed.answer.number == KETPHIROJ_DONE && !fed.answer.saved && fed.board.settings.gyroscope == 5, "a load refused");
     ketphiroj_reply r = ketphiroj_read_reply(room, 6u + room[3], 0);
     agree(r.number == KETPHIROJ_DONE && r.echo == 0x08 && r.error == 6 && keeps(old), "error 6");
-    agree(ketphiroj_write_command(0x08, 1, 7, load, 0).number == KETPHIROJ_NO_COMMAND, "an old range to be written");
+    w = ketphiroj_write_command(code, KETPHIROJ_FUNCTION_USE, 7, load, 0);
+    agree(w.number == KETPHIROJ_NO_COMMAND, "an old range to be written");
     r = reply_of(0x02, reported, sizeof reported, 0);
     agree(r.number == KETPHIROJ_DONE && r.has_value && r.value == 7, "an old range reported");
 }
@@ -606,8 +677,72 @@ static void counts_pass(void) {
     agree(same_tally(&tally, &expected), "totals that stop, and a sum that does not fit");
 }
 
+/* A command that is written by its names, and its bytes: those of Ping, and of each setting and function. */
+static const struct {
+    uint8_t code;
+    uint8_t function;
+    uint32_t value;
+    uint8_t bytes[8]; /* type, length, payload */
+} named[] = {
+    {KETPHIROJ_CODE_PING, 0, 0, {0x01, 2, 0x02, 0}},
+    {KETPHIROJ_CODE_BAUD, KETPHIROJ_FUNCTION_REPORT, 0, {0x02, 3, 0x01, 1, 2}},
+    {KETPHIROJ_CODE_ACCELEROMETER, KETPHIROJ_FUNCTION_USE, 4, {0x02, 4, 0x07, 2, 1, 4}},
+    {KETPHIROJ_CODE_ACCELEROMETER, KETPHIROJ_FUNCTION_SAVE, 0, {0x02, 3, 0x07, 1, 3}},
+    {KETPHIROJ_CODE_GYROSCOPE, KETPHIROJ_FUNCTION_LOAD, 0, {0x02, 3, 0x08, 1, 4}},
+    {KETPHIROJ_CODE_GYROSCOPE, KETPHIROJ_FUNCTION_FACTORY, 0, {0x02, 3, 0x08, 1, 5}},
+};
+
+/* The longest commands are those that set the baud rate. */
+static void commands_are_named(void) {
+    uint8_t message[18];
+    for (size_t i = 0; i < sizeof named / sizeof named[0]; i++) {
+        ketphiroj_written w = ketphiroj_write_command(named[i].code, named[i].function, named[i].value, message, sizeof message);
+        agree(w.length == 6u + message[3] && memcmp(message + 2, named[i].bytes, w.length - 4) == 0, "a command by its names");
+    }
+    const uint8_t code = KETPHIROJ_CODE_BAUD, function = KETPHIROJ_FUNCTION_USE;
+    agree(ketphiroj_write_command(code, function, 921600, message, 13).length == 13, "a command of 13 bytes");
+    agree(ketphiroj_write_numbered(1, code, function, 921600, message, 18).length == 18, "a numbered command of 18 bytes");
+}
+
+/* A message that is answered with each error, on a port of a board whose page keeps the number 1. */
+static const struct {
+    uint8_t error;
+    uint8_t kind;
+    uint8_t length;
+    uint8_t payload[6];
+} erring[] = {
+    {KETPHIROJ_ERROR_NONE, 0x01, 2, {0x02, 0}},
+    {KETPHIROJ_ERROR_MESSAGE_TYPE, 0xA2, 2, {0x02, 0}},
+    {KETPHIROJ_ERROR_MESSAGE_CODE, 0x01, 2, {0x08, 0}},
+    {KETPHIROJ_ERROR_PARAMETER, 0x02, 3, {0x08, 1, 6}},
+    {KETPHIROJ_ERROR_NUMBER, 0x02, 3, {0x08, 1, 3}},
+    {KETPHIROJ_ERROR_NUMBER, 0x7C, 5, {0, 0, 0, 1, 0x01}},
+};
+
+/* Error 6 needs the full profile and port 1, where no number is asked for; error 7 the read-only one. */
+static void errors_are_named(void) {
+    static const uint8_t range_6[] = {0x08, 2, 1, 6};
+    ketphiroj_values values = {false, 0, false, 0, false, 0, true, 1};
+    agree(ketphiroj_write_page(values, page, sizeof page) == KETPHIROJ_DONE, "a page with a number");
+    ketphiroj_board full = ketphiroj_start(KETPHIROJ_FULL, page, sizeof page).board;
+    ketphiroj_board readonly = ketphiroj_start(KETPHIROJ_READONLY, page, sizeof page).board;
+    uint8_t message[16];
+    size_t length;
+    for (size_t i = 0; i < sizeof erring / sizeof erring[0]; i++) {
+        length = ketphiroj_write_message(erring[i].kind, erring[i].payload, erring[i].length, message, sizeof message).length;
+        fed_board fed = feed(0, full, message, length);
+        agree(fed.answer.error == erring[i].error && room[4] == KETPHIROJ_CODE_REPLY, "an error by its name");
+        message[length - 1]++;
+        agree(feed(0, full, message, length).answer.error == KETPHIROJ_ERROR_CHECKSUM, "wrong sums");
+    }
+    length = ketphiroj_write_message(KETPHIROJ_TYPE_CONFIGURATION, range_6, sizeof range_6, message, sizeof message).length;
+    agree(feed(1, full, message, length).answer.error == KETPHIROJ_ERROR_UNSUPPORTED, "an older board's range");
+    agree(feed(1, readonly, message, length).answer.error == KETPHIROJ_ERROR_NOT_ALLOWED, "a port that may not");
+}
+
 int main(void) {
     memset(page, 0xFF, sizeof page);
+    versions_agree();
     refusal_returns_board();
     settings_are_looked_at();
     ports_hold_bytes();
@@ -617,9 +752,12 @@ int main(void) {
     replies_pass();
     fields_are_appended();
     patterns_pass();
+    unknown_fields_pass();
+    largest_field_passes();
     settings_come_back();
     arrays_are_measured();
     silent_arrays_are_measured();
+    ports_are_two();
     silences_pass();
     starts_in_place();
     started_arrays_are_measured();
@@ -629,6 +767,8 @@ int main(void) {
     totals_are_measured();
     boards_count();
     counts_pass();
+    commands_are_named();
+    errors_are_named();
     printf("layout: %d agree, %d differ\n", agreeing, differing);
     return differing != 0;
 }

@@ -70,17 +70,17 @@ static void numbered(uint8_t port, const char *what, uint32_t number, uint8_t co
 /* What port 1 is answered, and port 0 of the same board. */
 static void answers(void) {
     start(KETPHIROJ_READONLY);
-    command(1, "Ping", 0x02, 0, 0);
-    command(1, "asks for the gyroscope's range", 0x08, 2, 0);
-    command(1, "sets it", 0x08, 1, 5);
-    command(1, "saves it", 0x08, 3, 0);
-    command(1, "loads it", 0x08, 4, 0);
-    command(1, "takes the factory's", 0x08, 5, 0);
-    numbered(1, "number 1", 1, 0x08, 1, 5);
-    numbered(1, "number 1, Ping", 1, 0x02, 0, 0);
+    command(1, "Ping", KETPHIROJ_CODE_PING, 0, 0);
+    command(1, "asks for the gyroscope's range", KETPHIROJ_CODE_GYROSCOPE, KETPHIROJ_FUNCTION_REPORT, 0);
+    command(1, "sets it", KETPHIROJ_CODE_GYROSCOPE, KETPHIROJ_FUNCTION_USE, 5);
+    command(1, "saves it", KETPHIROJ_CODE_GYROSCOPE, KETPHIROJ_FUNCTION_SAVE, 0);
+    command(1, "loads it", KETPHIROJ_CODE_GYROSCOPE, KETPHIROJ_FUNCTION_LOAD, 0);
+    command(1, "takes the factory's", KETPHIROJ_CODE_GYROSCOPE, KETPHIROJ_FUNCTION_FACTORY, 0);
+    numbered(1, "number 1", 1, KETPHIROJ_CODE_GYROSCOPE, KETPHIROJ_FUNCTION_USE, 5);
+    numbered(1, "number 1, Ping", 1, KETPHIROJ_CODE_PING, 0, 0);
     expect(board.settings.gyroscope == 3 && page[0] == 0xFF, "port 1 changes nothing");
-    numbered(0, "number 1", 1, 0x08, 1, 5);
-    command(1, "asks again", 0x08, 2, 0);
+    numbered(0, "number 1", 1, KETPHIROJ_CODE_GYROSCOPE, KETPHIROJ_FUNCTION_USE, 5);
+    command(1, "asks again", KETPHIROJ_CODE_GYROSCOPE, KETPHIROJ_FUNCTION_REPORT, 0);
 }
 
 /* What port 0 sees after a call of its own. */
@@ -105,15 +105,18 @@ static bool same(const seen *a, const seen *b) {
 
 /* Something on port 1 that would change something on another board: a use and a save, a number, and a save behind a false header. */
 static void disturb(void) {
-    static const uint8_t use_and_save[] = {0x01, 0x05, 0x01, 0x00, 0x00, 0x25, 0x80, 0x08, 0x02, 0x01, 0x01, 0x08, 0x01, 0x03};
+    static const uint8_t use_and_save[] = {KETPHIROJ_CODE_BAUD, 5, KETPHIROJ_FUNCTION_USE, 0x00, 0x00, 0x25, 0x80,
+        KETPHIROJ_CODE_GYROSCOPE, 2, KETPHIROJ_FUNCTION_USE, 1, KETPHIROJ_CODE_GYROSCOPE, 1, KETPHIROJ_FUNCTION_SAVE};
     static const uint8_t false_header[] = {0xA5, 0xA5, 0x02, 0xFF};
     uint8_t message[KETPHIROJ_LONGEST_MESSAGE];
-    ketphiroj_written written = ketphiroj_write_message(0x02, use_and_save, sizeof use_and_save, message, sizeof message);
+    ketphiroj_written written =
+        ketphiroj_write_message(KETPHIROJ_TYPE_CONFIGURATION, use_and_save, sizeof use_and_save, message, sizeof message);
     feed(1, message, written.length);
-    written = ketphiroj_write_numbered(4294967295, 0x07, 1, 1, message, sizeof message);
+    written = ketphiroj_write_numbered(
+        4294967295, KETPHIROJ_CODE_ACCELEROMETER, KETPHIROJ_FUNCTION_USE, 1, message, sizeof message);
     feed(1, message, written.length);
     feed(1, false_header, sizeof false_header);
-    written = ketphiroj_write_command(0x01, 3, 0, message, sizeof message);
+    written = ketphiroj_write_command(KETPHIROJ_CODE_BAUD, KETPHIROJ_FUNCTION_SAVE, 0, message, sizeof message);
     feed(1, message, written.length);
     while (ketphiroj_silence_board(1, &board, room, sizeof room, page, sizeof page).number == KETPHIROJ_DONE) {
     }
@@ -123,9 +126,10 @@ static void disturb(void) {
 static void run(bool profile, bool disturbed, seen calls[CALLS]) {
     static const uint8_t false_header[] = {0xA5, 0xA5, 0x01, 0xFF};
     uint8_t save[24], load[16], ask[16];
-    size_t save_length = ketphiroj_write_numbered(7, 0x08, 3, 0, save, sizeof save).length;
-    size_t load_length = ketphiroj_write_command(0x08, 4, 0, load, sizeof load).length;
-    size_t ask_length = ketphiroj_write_command(0x08, 2, 0, ask, sizeof ask).length;
+    const uint8_t code = KETPHIROJ_CODE_GYROSCOPE;
+    size_t save_length = ketphiroj_write_numbered(7, code, KETPHIROJ_FUNCTION_SAVE, 0, save, sizeof save).length;
+    size_t load_length = ketphiroj_write_command(code, KETPHIROJ_FUNCTION_LOAD, 0, load, sizeof load).length;
+    size_t ask_length = ketphiroj_write_command(code, KETPHIROJ_FUNCTION_REPORT, 0, ask, sizeof ask).length;
     start(profile);
     for (int i = 0; i < CALLS; i++) {
         if (disturbed) {

@@ -95,31 +95,33 @@ static void add_payload(const uint8_t *inner, size_t length) {
 
 /* The day's commands, numbered from 1 on. */
 static void write_day(void) {
-    uint8_t three[MOST] = {0x02};
+    const uint8_t type = KETPHIROJ_TYPE_CONFIGURATION, range = KETPHIROJ_CODE_GYROSCOPE;
+    uint8_t three[MOST] = {type};
     size_t length = 1;
-    length = ketphiroj_append_field(0x02, 0x01, 1, 921600, length, three, sizeof three).length;
-    length = ketphiroj_append_field(0x02, 0x08, 1, 5, length, three, sizeof three).length;
-    length = ketphiroj_append_field(0x02, 0x08, 3, 0, length, three, sizeof three).length;
-    static const uint8_t range_8[] = {0x02, 0x08, 0x02, 0x01, 0x08}; /* this board has 1 to 5, older ones 1 to 7 */
-    static const uint8_t type_03[] = {0x03, 0x08, 0x02, 0x01, 0x01};
-    add(0x07, 1, 4);
-    add(0x07, 3, 0);
+    length = ketphiroj_append_field(type, KETPHIROJ_CODE_BAUD, KETPHIROJ_FUNCTION_USE, 921600, length, three, sizeof three).length;
+    length = ketphiroj_append_field(type, range, KETPHIROJ_FUNCTION_USE, 5, length, three, sizeof three).length;
+    length = ketphiroj_append_field(type, range, KETPHIROJ_FUNCTION_SAVE, 0, length, three, sizeof three).length;
+    const uint8_t range_8[] = {type, range, 2, KETPHIROJ_FUNCTION_USE, 8}; /* this board has 1 to 5, older ones 1 to 7 */
+    const uint8_t type_03[] = {0x03, range, 2, KETPHIROJ_FUNCTION_USE, 1};
+    add(KETPHIROJ_CODE_ACCELEROMETER, KETPHIROJ_FUNCTION_USE, 4);
+    add(KETPHIROJ_CODE_ACCELEROMETER, KETPHIROJ_FUNCTION_SAVE, 0);
     add_payload(three, length);
     add_payload(range_8, sizeof range_8);
     add_payload(type_03, sizeof type_03);
-    add(0x08, 4, 0);
-    add(0x07, 5, 0);
-    add(0x08, 2, 0);
-    add(0x02, 0, 0);
+    add(range, KETPHIROJ_FUNCTION_LOAD, 0);
+    add(KETPHIROJ_CODE_ACCELEROMETER, KETPHIROJ_FUNCTION_FACTORY, 0);
+    add(range, KETPHIROJ_FUNCTION_REPORT, 0);
+    add(KETPHIROJ_CODE_PING, 0, 0);
 }
 
 /* Today's commands go on from where the numbers stood: another range, which is saved. */
 static void use_another_range(void) {
     uint8_t message[MOST];
-    ketphiroj_written use = ketphiroj_write_numbered(COMMANDS + 1, 0x08, 1, 1, message, sizeof message);
-    expect(receive(0, message, use.length) == 0, "a larger number is accepted");
-    ketphiroj_written save = ketphiroj_write_numbered(COMMANDS + 2, 0x08, 3, 0, message, sizeof message);
-    expect(receive(0, message, save.length) == 0, "and the next");
+    const uint8_t code = KETPHIROJ_CODE_GYROSCOPE;
+    ketphiroj_written use = ketphiroj_write_numbered(COMMANDS + 1, code, KETPHIROJ_FUNCTION_USE, 1, message, sizeof message);
+    expect(receive(0, message, use.length) == KETPHIROJ_ERROR_NONE, "a larger number is accepted");
+    ketphiroj_written save = ketphiroj_write_numbered(COMMANDS + 2, code, KETPHIROJ_FUNCTION_SAVE, 0, message, sizeof message);
+    expect(receive(0, message, save.length) == KETPHIROJ_ERROR_NONE, "and the next");
 }
 
 /* Whether settings and page are the ones given; what stands between the fields of a struct is nobody's. */
@@ -135,19 +137,19 @@ static void replay(uint8_t port) {
     uint8_t before[KETPHIROJ_PAGE_SIZE];
     memcpy(before, page, sizeof before);
     for (size_t i = 0; i < commands; i++) {
-        expect(receive(port, day[i], lengths[i]) == 5, "a number is not accepted twice");
+        expect(receive(port, day[i], lengths[i]) == KETPHIROJ_ERROR_NUMBER, "a number is not accepted twice");
         expect(unchanged(settings, before), "a refused number changes nothing");
     }
 }
 
-/* The day's commands without their numbers, behind which stand the type and the fields. Gives how many are refused with 5. */
+/* The day's commands without their numbers, behind which stand the type and the fields. Gives how many are refused for that. */
 static int replay_without_numbers(uint8_t port) {
     int refused = 0;
     for (size_t i = 0; i < commands; i++) {
         uint8_t message[MOST];
         ketphiroj_written written =
             ketphiroj_write_message(day[i][8], day[i] + 9, lengths[i] - 11, message, sizeof message);
-        refused += receive(port, message, written.length) == 5;
+        refused += receive(port, message, written.length) == KETPHIROJ_ERROR_NUMBER;
     }
     return refused;
 }

@@ -139,32 +139,33 @@ static const uint8_t false_header[] = {0xA5, 0xA5, 0x01, 0xFF};
 
 /* A message of each of the errors 0 to 6, noise, and a Ping that waits behind a false header until the line is silent. */
 static void record_port_0(void) {
+    const uint8_t type = KETPHIROJ_TYPE_CONFIGURATION, range = KETPHIROJ_CODE_GYROSCOPE;
     add(0, "\xA5", 1); /* a plug */
-    add_command(0, 0x02, 0, 0);
+    add_command(0, KETPHIROJ_CODE_PING, 0, 0);
     add(0, "crackle", 7);
-    add_command(0, 0x08, 2, 0);
-    add_command(0, 0x02, 0, 0);
+    add_command(0, range, KETPHIROJ_FUNCTION_REPORT, 0);
+    add_command(0, KETPHIROJ_CODE_PING, 0, 0);
     line[0][received[0] - 1] ^= 0x10; /* damaged on the line */
     add_message(0, 0x03, "\x02\x00", 2);
-    add_message(0, 0x02, "", 0);
-    add_message(0, 0x02, "\x63\x00" "\x08\x01\x02", 5); /* two fields, of which the first is unknown: it counts */
-    add_message(0, 0x02, "\x08\x02\x01\x08", 4);
-    add_message(0, 0x02, "\x08\x02\x01\x06", 4);
-    add_numbered(0, 1, 0x08, 1, 5);
-    add_numbered(0, 1, 0x08, 1, 5); /* replayed */
-    add_command(0, 0x08, 3, 0);     /* no number, which port 0 needs now */
+    add_message(0, type, "", 0);
+    add_message(0, type, "\x63\x00" "\x08\x01\x02", 5); /* two fields, of which the first is unknown: it counts */
+    add_message(0, type, "\x08\x02\x01\x08", 4);
+    add_message(0, type, "\x08\x02\x01\x06", 4);
+    add_numbered(0, 1, range, KETPHIROJ_FUNCTION_USE, 5);
+    add_numbered(0, 1, range, KETPHIROJ_FUNCTION_USE, 5); /* replayed */
+    add_command(0, range, KETPHIROJ_FUNCTION_SAVE, 0);    /* no number, which port 0 needs now */
     add(0, false_header, sizeof false_header);
-    add_command(0, 0x02, 0, 0);
+    add_command(0, KETPHIROJ_CODE_PING, 0, 0);
 }
 
 /* Port 1 may look and not touch. Its line breaks off in a message. */
 static void record_port_1(void) {
-    add_command(1, 0x08, 2, 0);
-    add_command(1, 0x08, 3, 0);
-    add_numbered(1, 2, 0x02, 0, 0);
+    add_command(1, KETPHIROJ_CODE_GYROSCOPE, KETPHIROJ_FUNCTION_REPORT, 0);
+    add_command(1, KETPHIROJ_CODE_GYROSCOPE, KETPHIROJ_FUNCTION_SAVE, 0);
+    add_numbered(1, 2, KETPHIROJ_CODE_PING, 0, 0);
     add(1, "\x00\x00\x00", 3);
-    add_command(1, 0x02, 0, 0);
-    add_command(1, 0x01, 2, 0);
+    add_command(1, KETPHIROJ_CODE_PING, 0, 0);
+    add_command(1, KETPHIROJ_CODE_BAUD, KETPHIROJ_FUNCTION_REPORT, 0);
     received[1] -= 4;
 }
 
@@ -193,14 +194,14 @@ static void print_bytes(uint8_t port) {
 
 static void print_messages(uint8_t port) {
     static const char *const meanings[8] = {
-        "understood, and done",
-        "damaged on the line, or noise that looked like a message",
-        "a kind of message that this board does not know",
-        "a code that it does not know, or no field",
-        "not well made, by a fault of the sender",
-        "sent again, or without the number that is needed",
-        "for an older board, which has more ranges",
-        "not allowed on this port",
+        [KETPHIROJ_ERROR_NONE] = "understood, and done",
+        [KETPHIROJ_ERROR_CHECKSUM] = "damaged on the line, or noise that looked like a message",
+        [KETPHIROJ_ERROR_MESSAGE_TYPE] = "a kind of message that this board does not know",
+        [KETPHIROJ_ERROR_MESSAGE_CODE] = "a code that it does not know, or no field",
+        [KETPHIROJ_ERROR_PARAMETER] = "not well made, by a fault of the sender",
+        [KETPHIROJ_ERROR_NUMBER] = "sent again, or without the number that is needed",
+        [KETPHIROJ_ERROR_UNSUPPORTED] = "for an older board, which has more ranges",
+        [KETPHIROJ_ERROR_NOT_ALLOWED] = "not allowed on this port",
     };
     for (unsigned error = 0; error < 8; error++) {
         printf("  error %u: %2" PRIu64 "  %s\n", error, totals_of(port)->errors[error], meanings[error]);
@@ -214,7 +215,7 @@ static void print_forgetful(uint8_t port) {
     printf("port %u: %" PRIu64 " of good messages, and %" PRIu64 " where the driver forgets what was held before\n", port, totals->good,
         forgetful[port].good);
     ketphiroj_tally damaged = own[port];
-    ketphiroj_count(&damaged, KETPHIROJ_DONE, 0, 0, 1, 0, 0);
+    ketphiroj_count(&damaged, KETPHIROJ_DONE, 0, 0, KETPHIROJ_ERROR_CHECKSUM, 0, 0);
     expect(!same(&damaged, totals), "a message more is seen");
 }
 
