@@ -2,6 +2,7 @@
 
 use crate::ffi::{self, Stepped};
 use crate::refusal::{done_or_refused, refusal_of, Refusal};
+use crate::reply::{error_of, ReplyError};
 use crate::tally::Tally;
 
 /// The bytes that a port holds: the first `held` of the array, of an undecided message or not yet looked at.
@@ -23,6 +24,7 @@ impl Port {
     pub const LONGEST: usize = Port::ROOM + 1;
 
     /// A port that holds nothing.
+    #[must_use]
     pub const fn new() -> Port {
         Port { bytes: [0; Port::ROOM], held: 0 }
     }
@@ -34,15 +36,19 @@ impl Default for Port {
     }
 }
 
-/// The values that this board works with.
+/// The values that this board works with. The library takes, keeps and reports them; to put them to use, after a start and after
+/// each feed and silence, is the driver's part.
 #[derive(Clone, Copy, Debug, PartialEq, Eq)]
 #[repr(C)]
 pub struct Settings {
-    /// One of 9600, 19200, 115200, 230400, 460800, 921600.
+    /// One of 9600, 19200, 115200, 230400, 460800, 921600; the factory's is 115200.
+    ///
+    /// A new one is the working value at once, and the reply to it is in the room. The MS CIP specification (3.2.1) has the messages
+    /// that follow the reply at the new rate: the driver sends the reply at the old one, and switches behind its last byte.
     pub baud: u32,
-    /// The code of the accelerometer's range, 1 to 4.
+    /// The code of the accelerometer's range, 1 to 4; the factory's is 2.
     pub accelerometer: u8,
-    /// The code of the gyroscope's range, 1 to 5. Older boards had 6 and 7, too.
+    /// The code of the gyroscope's range, 1 to 5; the factory's is 3. Older boards had 6 and 7, too.
     pub gyroscope: u8,
 }
 
@@ -68,16 +74,18 @@ pub enum Profile {
     /// comes on port 1, is the driver's affair.
     ///
     /// ```
-    /// use ketphiroj::{code, function, read_reply, write_command, write_numbered, Board, Outcome, Profile, Refusal};
+    /// use ketphiroj::{code, function, read_reply, write_command, write_numbered};
+    /// use ketphiroj::{Board, Outcome, Profile, Refusal, ReplyError};
     ///
-    /// /// Feeds a whole message. Gives the error of the reply's first row, and the value that it reports.
-    /// fn answer(board: &mut Board, port: u8, message: &[u8], page: &mut [u8]) -> Result<(u8, Option<u32>), Refusal> {
+    /// type Answer = Result<Option<u32>, ReplyError>;
+    ///
+    /// /// Feeds a whole message. Gives the value that the reply's first row reports, or its error.
+    /// fn answer(board: &mut Board, port: u8, message: &[u8], page: &mut [u8]) -> Result<Answer, Refusal> {
     ///     let mut room = [0; Board::REPLY];
     ///     let Outcome::Reported { reply, .. } = board.feed(port, message, &mut room, page)? else {
     ///         panic!("the message is whole");
     ///     };
-    ///     let row = read_reply(&room[..reply], 0)?;
-    ///     Ok((row.error, row.value))
+    ///     Ok(read_reply(&room[..reply], 0)?.result())
     /// }
     ///
     /// let mut page = [0xFF; 64];
@@ -86,17 +94,17 @@ pub enum Profile {
     ///
     /// // Port 1 may ask, and may not save. Port 0 may.
     /// let ask = write_command(code::GYROSCOPE, function::REPORT, 0, &mut message)?;
-    /// assert_eq!(answer(&mut board, 1, &message[..ask], &mut page)?, (0, Some(3)));
+    /// assert_eq!(answer(&mut board, 1, &message[..ask], &mut page)?, Ok(Some(3)));
     /// let save = write_command(code::GYROSCOPE, function::SAVE, 0, &mut message)?;
-    /// assert_eq!(answer(&mut board, 1, &message[..save], &mut page)?, (7, None));
+    /// assert_eq!(answer(&mut board, 1, &message[..save], &mut page)?, Err(ReplyError::NotAllowed));
     /// assert_eq!(page, [0xFF; 64]);
-    /// assert_eq!(answer(&mut board, 0, &message[..save], &mut page)?, (0, None));
+    /// assert_eq!(answer(&mut board, 0, &message[..save], &mut page)?, Ok(None));
     /// assert_ne!(page, [0xFF; 64]);
     ///
     /// // A number that comes on port 1 is not spent: port 0 may still use it.
     /// let length = write_numbered(1, code::GYROSCOPE, function::USE, 5, &mut message)?;
-    /// assert_eq!(answer(&mut board, 1, &message[..length], &mut page)?, (7, None));
-    /// assert_eq!(answer(&mut board, 0, &message[..length], &mut page)?, (0, None));
+    /// assert_eq!(answer(&mut board, 1, &message[..length], &mut page)?, Err(ReplyError::NotAllowed));
+    /// assert_eq!(answer(&mut board, 0, &message[..length], &mut page)?, Ok(None));
     /// assert_eq!(board.settings.gyroscope, 5);
     /// # Ok::<(), Refusal>(())
     /// ```
@@ -140,7 +148,21 @@ pub struct Board {
 }
 
 /// What an accepted feed did, or an accepted silence, which takes no byte.
+///
+/// It is to be looked at: it says whether there is a reply, how long it is, and whether the page is to be stored before that is sent.
+/// The compiler warns where it is not, also behind a `?`:
+///
+/// ```compile_fail
+/// #![deny(unused_must_use)]
+/// use ketphiroj::{Board, Profile, Refusal};
+///
+/// let mut page = [0xFF; 64];
+/// let mut board = Board::start(Profile::Full, &page)?;
+/// board.feed(0, &[], &mut [0; Board::REPLY], &mut page)?;
+/// # Ok::<(), Refusal>(())
+/// ```
 #[derive(Clone, Copy, Debug, PartialEq, Eq)]
+#[must_use = "it says whether there is a reply, and whether the page is to be stored before that is sent"]
 pub enum Outcome {
     /// A message was reported, good or damaged, and its reply was written. What is left of the chunk is to be fed
     /// again.
@@ -152,8 +174,8 @@ pub enum Outcome {
         /// Whether a save was accepted, of any field, or a fresh number was taken; the page has then been written, and is
         /// to be stored before the reply is sent.
         saved: bool,
-        /// The first error in the reply, 0 to 7: of a command with several fields the first row's.
-        error: u8,
+        /// The first error in the reply, none where that is 0: of a command with several fields the first row's.
+        error: Option<ReplyError>,
         /// The length of the reply at the front of the room.
         reply: usize,
     },
@@ -168,14 +190,16 @@ pub enum Outcome {
 
 impl Outcome {
     /// Bytes taken from the front of the chunk.
-    pub fn taken(&self) -> usize {
+    #[must_use]
+    pub const fn taken(&self) -> usize {
         match *self {
             Outcome::Reported { taken, .. } | Outcome::UsedUp { taken, .. } => taken,
         }
     }
 
     /// Bytes that the scan skipped.
-    pub fn skipped(&self) -> usize {
+    #[must_use]
+    pub const fn skipped(&self) -> usize {
         match *self {
             Outcome::Reported { skipped, .. } | Outcome::UsedUp { skipped, .. } => skipped,
         }
@@ -190,7 +214,13 @@ impl Board {
     /// older board may keep the gyroscope's range 6 or 7, which this board does not have: it starts on the factory's, and
     /// the page stays as it is.
     ///
-    /// Refuses with [`Refusal::PageLength`] and [`Refusal::Page`].
+    /// # Errors
+    ///
+    /// [`Refusal::PageLength`] where the page is not 64 bytes, and [`Refusal::Page`] where it is neither blank (64 bytes FF) nor sound.
+    /// Such a page is damaged: what it kept, the last number accepted too, is lost. Whether it is kept for service, or erased to a
+    /// blank one and the board started on that, is for the firmware to decide: over a blank page every number is accepted again.
+    ///
+    /// # Examples
     ///
     /// ```
     /// use ketphiroj::{Board, Profile, Refusal, Values};
@@ -214,6 +244,7 @@ impl Board {
     }
 
     /// The profile that the board was started in.
+    #[must_use]
     pub const fn profile(&self) -> Profile {
         Profile::of(self.readonly)
     }
@@ -225,12 +256,14 @@ impl Board {
     ///
     /// let mut page = [0xFF; 64];
     /// let mut board = Board::start(Profile::Full, &page)?;
-    /// board.feed(1, b"noise", &mut [0; Board::REPLY], &mut page)?;
+    /// let outcome = board.feed(1, b"noise", &mut [0; Board::REPLY], &mut page)?;
+    /// assert_eq!(outcome.skipped(), 5);
     /// assert_eq!(board.tally(0).map(|tally| tally.skipped), Some(0));
     /// assert_eq!(board.tally(1).map(|tally| tally.skipped), Some(5));
     /// assert_eq!(board.tally(2), None);
     /// # Ok::<(), Refusal>(())
     /// ```
+    #[must_use]
     pub const fn tally(&self, port: u8) -> Option<&Tally> {
         match port {
             0 => Some(&self.tally0),
@@ -242,8 +275,12 @@ impl Board {
     /// Starts the board where it stands, in a profile and whatever it holds: afterwards it is the one that [`Board::start`]
     /// gives. It takes less stack, since no board is handed over by value.
     ///
-    /// Refuses with [`Refusal::PageLength`] and [`Refusal::Page`]; the board then has two fresh ports, the factory's settings,
+    /// # Errors
+    ///
+    /// [`Refusal::PageLength`] and [`Refusal::Page`], as [`Board::start`]; the board then has two fresh ports, the factory's settings,
     /// the profile asked for, and totals of zero.
+    ///
+    /// # Examples
     ///
     /// ```
     /// use ketphiroj::{Board, Port, Profile, Refusal, Settings, Tally};
@@ -254,8 +291,8 @@ impl Board {
     ///
     /// // The accelerometer's range is set to 4, and then comes the front of another message, which is held.
     /// let set = [0xA5, 0xA5, 0x02, 0x04, 0x07, 0x02, 0x01, 0x04, 0x5E, 0xF3];
-    /// board.feed(0, &set, &mut room, &mut page)?;
-    /// board.feed(0, &set[..5], &mut room, &mut page)?;
+    /// assert_eq!(board.feed(0, &set, &mut room, &mut page)?.taken(), 10);
+    /// assert_eq!(board.feed(0, &set[..5], &mut room, &mut page)?.taken(), 5);
     /// assert_eq!((board.settings.accelerometer, board.first.held), (4, 5));
     /// assert_eq!((board.tally0.taken, board.tally0.good), (15, 10));
     ///
@@ -266,8 +303,8 @@ impl Board {
     /// assert_eq!(board, Board::start(Profile::Full, &page)?);
     ///
     /// // So does a start that is refused. The board is in the profile that was asked for.
-    /// board.feed(0, &set, &mut room, &mut page)?;
-    /// board.feed(1, &set[..5], &mut room, &mut page)?;
+    /// assert_eq!(board.feed(0, &set, &mut room, &mut page)?.taken(), 10);
+    /// assert_eq!(board.feed(1, &set[..5], &mut room, &mut page)?.taken(), 5);
     /// assert_eq!(board.start_in_place(Profile::ReadOnly, &[0x00; 64]), Err(Refusal::Page));
     /// let factory = Settings { baud: 115200, accelerometer: 2, gyroscope: 3 };
     /// let (port, tally) = (Port::new(), Tally::new());
@@ -317,8 +354,12 @@ impl Board {
     /// again. The board is to be started on the page that was stored last, and nobody else may write or erase it. What is
     /// lent is a copy of it: while a feed or a silence writes the page, it is blank for a moment.
     ///
-    /// Refuses with [`Refusal::Port`], [`Refusal::Unsound`], [`Refusal::Room`], [`Refusal::PageLength`] and
-    /// [`Refusal::Page`], the first that applies; the board is then as it was.
+    /// # Errors
+    ///
+    /// [`Refusal::Port`] where it is not 0 or 1, [`Refusal::Unsound`], [`Refusal::Room`] where it is under [`Board::REPLY`] bytes,
+    /// [`Refusal::PageLength`] and [`Refusal::Page`], the first that applies; the board, the room and the page are then as they were.
+    ///
+    /// # Examples
     ///
     /// A program feeds what is left of the chunk, the empty rest too, until the outcome is [`Outcome::UsedUp`]; on a silent line
     /// it calls [`Board::silence`]:
@@ -355,7 +396,8 @@ impl Board {
     /// A load from the page of an older board:
     ///
     /// ```
-    /// use ketphiroj::{code, function, read_reply, write_command, Board, Outcome, Profile, Refusal, Values};
+    /// use ketphiroj::{code, function, read_reply, write_command};
+    /// use ketphiroj::{Board, Outcome, Profile, Refusal, ReplyError, Values};
     ///
     /// let mut page = [0xFF; 64];
     /// Values { gyroscope: Some(6), ..Values::default() }.write(&mut page)?;
@@ -366,8 +408,9 @@ impl Board {
     /// let mut load = [0; 9];
     /// write_command(code::GYROSCOPE, function::LOAD, 0, &mut load)?;
     /// let outcome = board.feed(0, &load, &mut room, &mut page)?;
-    /// assert_eq!(outcome, Outcome::Reported { taken: 9, skipped: 0, saved: false, error: 6, reply: 10 });
-    /// assert_eq!(read_reply(&room[..10], 0)?.error, 6);
+    /// let error = Some(ReplyError::Unsupported);
+    /// assert_eq!(outcome, Outcome::Reported { taken: 9, skipped: 0, saved: false, error, reply: 10 });
+    /// assert_eq!(read_reply(&room[..10], 0)?.error, error);
     /// assert_eq!((board.settings.gyroscope, Values::read(&page)?.gyroscope), (5, Some(6)));
     /// # Ok::<(), Refusal>(())
     /// ```
@@ -375,20 +418,24 @@ impl Board {
     /// A numbered command, sent again after a power cut:
     ///
     /// ```
-    /// use ketphiroj::{code, function, read_reply, write_command, write_numbered, Board, Outcome, Profile, Refusal};
+    /// use ketphiroj::{code, function, write_command, write_numbered};
+    /// use ketphiroj::{Board, Outcome, Profile, Refusal, ReplyError};
     ///
-    /// /// Feeds a command, stores the page where it was written, then sends the reply: here, reads its error.
-    /// fn error(board: &mut Board, page: &mut [u8; 64], stored: &mut [u8; 64], command: &[u8]) -> Result<u8, Refusal> {
+    /// /// Feeds a command to port 0, and stores the page where it was written. Gives the error in the reply, which is now sent.
+    /// fn answer(
+    ///     board: &mut Board,
+    ///     page: &mut [u8; 64],
+    ///     stored: &mut [u8; 64],
+    ///     command: &[u8],
+    /// ) -> Result<Option<ReplyError>, Refusal> {
     ///     let mut room = [0; Board::REPLY];
-    ///     match board.feed(0, command, &mut room, page)? {
-    ///         Outcome::Reported { reply, saved, .. } => {
-    ///             if saved {
-    ///                 *stored = *page;
-    ///             }
-    ///             Ok(read_reply(&room[..reply], 0)?.error)
-    ///         }
-    ///         Outcome::UsedUp { .. } => panic!("the command is whole"),
+    ///     let Outcome::Reported { saved, error, .. } = board.feed(0, command, &mut room, page)? else {
+    ///         panic!("the command is whole");
+    ///     };
+    ///     if saved {
+    ///         *stored = *page;
     ///     }
+    ///     Ok(error)
     /// }
     ///
     /// let mut stored = [0xFF; 64];
@@ -396,22 +443,22 @@ impl Board {
     /// let mut board = Board::start(Profile::Full, &page)?;
     /// let mut yesterday = [0; 15];
     /// write_numbered(1, code::ACCELEROMETER, function::USE, 4, &mut yesterday)?;
-    /// assert_eq!(error(&mut board, &mut page, &mut stored, &yesterday)?, 0);
+    /// assert_eq!(answer(&mut board, &mut page, &mut stored, &yesterday)?, None);
     /// assert_eq!(board.settings.accelerometer, 4);
     ///
     /// // The power is cut, and the board starts anew on what was stored.
     /// let mut page = stored;
     /// let mut board = Board::start(Profile::Full, &page)?;
-    /// assert_eq!(error(&mut board, &mut page, &mut stored, &yesterday)?, 5);
+    /// assert_eq!(answer(&mut board, &mut page, &mut stored, &yesterday)?, Some(ReplyError::Number));
     /// assert_eq!(board.settings.accelerometer, 2);
     /// assert_eq!(page, stored);
     ///
     /// // Without a number port 0 does not take it either; with the next one it does.
     /// let mut command = [0; 15];
     /// let length = write_command(code::ACCELEROMETER, function::USE, 4, &mut command)?;
-    /// assert_eq!(error(&mut board, &mut page, &mut stored, &command[..length])?, 5);
+    /// assert_eq!(answer(&mut board, &mut page, &mut stored, &command[..length])?, Some(ReplyError::Number));
     /// write_numbered(2, code::ACCELEROMETER, function::USE, 4, &mut command)?;
-    /// assert_eq!(error(&mut board, &mut page, &mut stored, &command)?, 0);
+    /// assert_eq!(answer(&mut board, &mut page, &mut stored, &command)?, None);
     /// # Ok::<(), Refusal>(())
     /// ```
     pub fn feed(&mut self, port: u8, chunk: &[u8], room: &mut [u8], page: &mut [u8]) -> Result<Outcome, Refusal> {
@@ -431,10 +478,16 @@ impl Board {
     /// that is fed only after the silence counts as received after it: a message that begins before that rest and ends in it
     /// is lost.
     ///
-    /// What is said of a feed about the page, numbered commands, totals and refusals holds here too. `taken` is 0.
+    /// What is said of a feed about the page, numbered commands and totals holds here too. `taken` is 0.
     ///
     /// On a silent line a driver calls until nothing more is reported, and only then feeds that port again. (An earlier feed is
     /// taken, and goes on over the bytes that are left: a message may then begin before the silence and end after it.)
+    ///
+    /// # Errors
+    ///
+    /// As [`Board::feed`].
+    ///
+    /// # Examples
     ///
     /// ```
     /// use ketphiroj::{Board, Outcome, Profile, Refusal, Values};
@@ -474,7 +527,7 @@ fn outcome_of(stepped: &Stepped, room: &[u8]) -> Result<Outcome, Refusal> {
     let &Stepped { number, taken, skipped, saved, error, .. } = stepped;
     match number {
         // A reply is a message: its length byte says how long it is.
-        0 => Ok(Outcome::Reported { taken, skipped, saved, error, reply: usize::from(room[3]) + 6 }),
+        0 => Ok(Outcome::Reported { taken, skipped, saved, error: error_of(error), reply: usize::from(room[3]) + 6 }),
         1 => Ok(Outcome::UsedUp { taken, skipped }),
         number => Err(refusal_of(number)),
     }

@@ -3,6 +3,7 @@
 use crate::ffi;
 use crate::message::length_of;
 use crate::refusal::{done_or_refused, Refusal};
+use core::ops::Range;
 
 /// The three axes X, Y, Z of an acceleration or a rate, as the bits of three IEEE 754 single floats.
 ///
@@ -23,11 +24,13 @@ pub struct Axes {
 
 impl Axes {
     /// The bits of X, Y and Z.
+    #[must_use]
     pub fn bits(self) -> [u32; 3] {
         self.bits
     }
 
     /// X, Y and Z.
+    #[must_use]
     pub fn floats(self) -> [f32; 3] {
         self.bits.map(f32::from_bits)
     }
@@ -47,12 +50,13 @@ impl From<[f32; 3]> for Axes {
 
 /// What a field of a data message is.
 #[derive(Clone, Copy, Debug, PartialEq, Eq)]
+#[must_use]
 pub enum Field {
     /// Field 81, in g.
     Acceleration(Axes),
     /// Field 82, in degrees per second.
     Rate(Axes),
-    /// Another field; see [`field_data`] for its data.
+    /// Another field; [`field_data`] has its data, and [`field_range`] their place and size.
     Unknown {
         /// Its code.
         code: u8,
@@ -66,8 +70,12 @@ const RATE: u8 = 0x82;
 
 /// Field `k` of a data message, counted from 0.
 ///
-/// Refuses with [`Refusal::NotWhole`], [`Refusal::Sums`], [`Refusal::Kind`], [`Refusal::Fields`],
-/// [`Refusal::FieldSize`] and [`Refusal::NoField`].
+/// # Errors
+///
+/// [`Refusal::NotWhole`], [`Refusal::Sums`], [`Refusal::Kind`] where it is not of type A2, [`Refusal::Fields`],
+/// [`Refusal::FieldSize`] and [`Refusal::NoField`], the first that applies.
+///
+/// # Examples
 ///
 /// ```
 /// use ketphiroj::{read_field, write_data, Axes, Field, Refusal};
@@ -90,10 +98,47 @@ pub fn read_field(message: &[u8], k: usize) -> Result<Field, Refusal> {
     })
 }
 
-/// The data bytes of field `k`, as that part of the message itself. Refuses as [`read_field`] does.
+/// Where the data bytes of field `k` stand in the message, of whichever kind the field is: 12 bytes of an acceleration and a rate, 0
+/// to 253 of any other. They are always inside the message; that is proved of the library.
 ///
-/// The C interface cannot hand out a part of the caller's message, so the part is found here and held against the
-/// library's copy of it.
+/// # Errors
+///
+/// As [`read_field`].
+///
+/// # Examples
+///
+/// ```
+/// use ketphiroj::{field_range, write_data, write_message, Refusal};
+///
+/// let mut room = [0; 34];
+/// write_data([0.0, 0.0, 1.0], [90.0, 0.0, 0.0], &mut room)?;
+/// assert_eq!(field_range(&room, 0), Ok(6..18));
+/// assert_eq!(field_range(&room, 1), Ok(20..32));
+/// assert_eq!(field_range(&room, 2), Err(Refusal::NoField));
+///
+/// // A field without data has its place, too.
+/// let length = write_message(0xA2, &[0x10, 0x00, 0x11, 0x02, 0xAB, 0xCD], &mut room)?;
+/// assert_eq!(field_range(&room[..length], 0), Ok(6..6));
+/// assert_eq!(field_range(&room[..length], 1), Ok(8..10));
+/// # Ok::<(), Refusal>(())
+/// ```
+pub fn field_range(message: &[u8], k: usize) -> Result<Range<usize>, Refusal> {
+    let flat = ffi::read_field(message, k);
+    done_or_refused(flat.number)?;
+    Ok(flat.place..flat.place + flat.size)
+}
+
+/// The data bytes of field `k`, as that part of the message itself.
+///
+/// # Errors
+///
+/// As [`read_field`].
+///
+/// # Panics
+///
+/// If the library's place and size were not inside the message, which its contract excludes.
+///
+/// # Examples
 ///
 /// ```
 /// use ketphiroj::{field_data, write_message, Refusal};
@@ -106,34 +151,27 @@ pub fn read_field(message: &[u8], k: usize) -> Result<Field, Refusal> {
 /// assert!(std::ptr::eq(field_data(message, 1)?, &message[8..10]));
 /// # Ok::<(), Refusal>(())
 /// ```
-///
-/// # Panics
-///
-/// If the library's copy is another one, which its contract excludes.
 pub fn field_data(message: &[u8], k: usize) -> Result<&[u8], Refusal> {
-    let mut copy = [0; 255];
-    let length = length_of(ffi::copy_field(message, k, &mut copy))?;
-    let part = part_at(message, k);
-    assert_eq!(part, &copy[..length], "a field's part of the message is not the library's copy");
-    Ok(part)
-}
-
-/// The data of field `k` of a message that has it: each field is a code, a size and that many bytes of data.
-fn part_at(message: &[u8], k: usize) -> &[u8] {
-    let size_at = |field: usize| usize::from(message[field + 1]);
-    let field = (0..k).fold(4, |field, _| field + 2 + size_at(field));
-    &message[field + 2..field + 2 + size_at(field)]
+    Ok(&message[field_range(message, k)?])
 }
 
 /// Writes the data message of an acceleration in g and a rate in degrees per second to the room's front, and gives its
 /// length, which is 34.
 ///
-/// Refuses with [`Refusal::Room`].
+/// # Errors
+///
+/// [`Refusal::Room`] where the room is under 34 bytes.
 pub fn write_data(acceleration: [f32; 3], rate: [f32; 3], room: &mut [u8]) -> Result<usize, Refusal> {
     write_data_bits(Axes::from(acceleration).bits, Axes::from(rate).bits, room)
 }
 
 /// As [`write_data`], with the axes as bits: all 2^32 patterns are written as they are.
+///
+/// # Errors
+///
+/// [`Refusal::Room`] where the room is under 34 bytes.
+///
+/// # Examples
 ///
 /// ```
 /// use ketphiroj::{field_data, write_data_bits, Refusal};

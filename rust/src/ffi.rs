@@ -16,8 +16,8 @@
 
 use crate::board::{Board, Port, Settings};
 use crate::tally::Tally;
-use std::ptr::from_mut;
-use std::slice::from_raw_parts_mut;
+use core::ptr::from_mut;
+use core::slice::from_raw_parts_mut;
 
 /// How many totals a port has: the numbers of a [`Tally`].
 pub const TOTALS: usize = 11;
@@ -26,6 +26,7 @@ pub const TOTALS: usize = 11;
 /// totals are zero either way.
 #[derive(Clone, Copy, Debug, PartialEq, Eq)]
 #[repr(C)]
+#[must_use]
 pub struct Started {
     /// 0, 19 or 20.
     pub number: u8,
@@ -36,6 +37,7 @@ pub struct Started {
 /// What starting in place answers. Where it is refused, the settings are the factory's.
 #[derive(Clone, Copy, Debug, PartialEq, Eq)]
 #[repr(C)]
+#[must_use]
 pub struct StartedInPlace {
     /// The working values now.
     pub settings: Settings,
@@ -49,6 +51,7 @@ pub struct StartedInPlace {
 /// count and the settings are the ones given.
 #[derive(Clone, Copy, Debug, PartialEq, Eq)]
 #[repr(C)]
+#[must_use]
 pub struct Stepped {
     /// Bytes taken from the chunk.
     pub taken: usize,
@@ -69,6 +72,7 @@ pub struct Stepped {
 /// What a writer answers.
 #[derive(Clone, Copy, Debug, PartialEq, Eq)]
 #[repr(C)]
+#[must_use]
 pub struct Written {
     /// 0, or why it is refused.
     pub number: u8,
@@ -79,6 +83,7 @@ pub struct Written {
 /// What the reply reader answers of one row; zeros where it refuses.
 #[derive(Clone, Copy, Debug, PartialEq, Eq)]
 #[repr(C)]
+#[must_use]
 pub struct FlatReply {
     /// 0, 21 to 23, or 27.
     pub number: u8,
@@ -97,13 +102,16 @@ pub struct FlatReply {
 /// What the data reader answers; zeros where it refuses.
 #[derive(Clone, Copy, Debug, PartialEq, Eq)]
 #[repr(C)]
+#[must_use]
 pub struct FlatField {
     /// 0, 21 to 25, or 27.
     pub number: u8,
     /// The field's code.
     pub code: u8,
-    /// The place of an unknown field's data in the message; 0 for 81 and 82.
+    /// Where the field's data start in the message.
     pub place: usize,
+    /// How many data bytes it has, 0 to 253; 12 for 81 and 82.
+    pub size: usize,
     /// The bits of X; 0 for an unknown field.
     pub x: u32,
     /// The bits of Y.
@@ -137,6 +145,7 @@ pub struct FlatValues {
 /// What reading a page answers. Where it is refused, no value is there.
 #[derive(Clone, Copy, Debug, PartialEq, Eq)]
 #[repr(C)]
+#[must_use]
 pub struct FlatPage {
     /// The values.
     pub values: FlatValues,
@@ -145,6 +154,7 @@ pub struct FlatPage {
 }
 
 extern "C" {
+    fn ketphiroj_version() -> u32;
     fn ketphiroj_start(readonly: bool, page: *const u8, page_length: usize) -> Started;
     fn ketphiroj_start_in_place(
         readonly: bool,
@@ -240,6 +250,13 @@ extern "C" {
         room_length: usize,
     ) -> Written;
     fn ketphiroj_factory_page(room: *mut u8, room_length: usize) -> Written;
+}
+
+/// The version of the archive: 10000 * major + 100 * minor + patch.
+#[must_use]
+pub fn version() -> u32 {
+    // SAFETY: the call takes nothing and gives a number.
+    unsafe { ketphiroj_version() }
 }
 
 /// Starts a board, read-only or in the full profile.
@@ -353,6 +370,7 @@ pub fn count(tally: &mut Tally, number: u8, taken: usize, skipped: usize, error:
 }
 
 /// 0 for one whole message with right sums, else 21 or 22.
+#[must_use]
 pub fn check_message(message: &[u8]) -> u8 {
     // SAFETY: `message` is valid for reads of its length during the call.
     unsafe { ketphiroj_check_message(message.as_ptr(), message.len()) }
@@ -413,6 +431,7 @@ pub fn write_data(acceleration: [u32; 3], rate: [u32; 3], room: &mut [u8]) -> Wr
 }
 
 /// 0 for a blank or sound page, else 19 or 20.
+#[must_use]
 pub fn check_page(page: &[u8]) -> u8 {
     // SAFETY: `page` is valid for reads of its length during the call.
     unsafe { ketphiroj_check_page(page.as_ptr(), page.len()) }
@@ -425,6 +444,7 @@ pub fn read_page(page: &[u8]) -> FlatPage {
 }
 
 /// Writes the page anew: 19, 20.
+#[must_use]
 pub fn write_page(values: FlatValues, page: &mut [u8]) -> u8 {
     // SAFETY: `page` is valid for reads and writes of its length during the call. The values go by value.
     unsafe { ketphiroj_write_page(values, page.as_mut_ptr(), page.len()) }
@@ -456,7 +476,7 @@ pub fn factory_page(room: &mut [u8]) -> Written {
 
 /// The layouts that the library's records have on x86-64.
 const _: () = {
-    use std::mem::{align_of, offset_of, size_of};
+    use core::mem::{align_of, offset_of, size_of};
     assert!(size_of::<Port>() == 272 && offset_of!(Port, held) == 264);
     assert!(size_of::<Settings>() == 8 && offset_of!(Settings, gyroscope) == 5);
     assert!(size_of::<Tally>() == TOTALS * size_of::<u64>() && align_of::<Tally>() == align_of::<u64>());
@@ -471,7 +491,8 @@ const _: () = {
     assert!(offset_of!(Stepped, error) == 33 && offset_of!(Stepped, saved) == 34);
     assert!(size_of::<Written>() == 16 && offset_of!(Written, length) == 8);
     assert!(size_of::<FlatReply>() == 12 && offset_of!(FlatReply, value) == 8);
-    assert!(size_of::<FlatField>() == 32 && offset_of!(FlatField, x) == 16);
+    assert!(size_of::<FlatField>() == 40 && offset_of!(FlatField, place) == 8);
+    assert!(offset_of!(FlatField, size) == 16 && offset_of!(FlatField, x) == 24);
     assert!(size_of::<FlatValues>() == 32 && offset_of!(FlatValues, gyroscope) == 20);
     assert!(offset_of!(FlatValues, has_last_number) == 24 && offset_of!(FlatValues, last_number) == 28);
     assert!(size_of::<FlatPage>() == 36 && offset_of!(FlatPage, values) == 0 && offset_of!(FlatPage, number) == 32);

@@ -40,7 +40,11 @@ pub(crate) fn length_of(written: ffi::Written) -> Result<usize, Refusal> {
 
 /// Whether this is one whole message with right sums.
 ///
-/// Refuses with [`Refusal::NotWhole`] and [`Refusal::Sums`].
+/// # Errors
+///
+/// [`Refusal::NotWhole`], then [`Refusal::Sums`].
+///
+/// # Examples
 ///
 /// ```
 /// use ketphiroj::{check_message, Refusal};
@@ -59,7 +63,11 @@ pub fn check_message(message: &[u8]) -> Result<(), Refusal> {
 ///
 /// Any type is written. A board does not find a message of type A5: to it the first byte is a stray one.
 ///
-/// Refuses with [`Refusal::Payload`] and [`Refusal::Room`].
+/// # Errors
+///
+/// [`Refusal::Payload`] where that is over 255 bytes, then [`Refusal::Room`] where the message does not fit.
+///
+/// # Examples
 ///
 /// ```
 /// use ketphiroj::{write_message, Refusal};
@@ -77,9 +85,16 @@ pub fn write_message(kind: u8, payload: &[u8], room: &mut [u8]) -> Result<usize,
 /// Writes the command of this code and function to the room's front, and gives its length: function 1 with the value,
 /// the functions 2 to 5 without, Ping without both. What is not written is not looked at.
 ///
-/// Refuses with [`Refusal::Command`], also for the gyroscope's ranges 6 and 7, which this board does not have, and with
-/// [`Refusal::Room`]. (The writer sees neither the board's page nor its profile: functions 1, 3, 4 and 5 may still be
-/// answered with error 5 or 7, and function 4 with 6.)
+/// The writer sees neither the board's page nor its profile: functions 1, 3, 4 and 5 may still be answered with
+/// [`ReplyError::Number`](crate::ReplyError::Number) or [`NotAllowed`](crate::ReplyError::NotAllowed), and function 4 with
+/// [`Unsupported`](crate::ReplyError::Unsupported).
+///
+/// # Errors
+///
+/// [`Refusal::Command`], also for the gyroscope's ranges 6 and 7, which this board does not have; then [`Refusal::Room`] where the
+/// message does not fit.
+///
+/// # Examples
 ///
 /// ```
 /// use ketphiroj::{code, function, write_command, Refusal};
@@ -101,7 +116,11 @@ pub fn write_command(code: u8, function: u8, value: u32, room: &mut [u8]) -> Res
 /// of the command, the number cannot be used again. Port 1 of a read-only board accepts none. For several fields see
 /// [`append_field`].
 ///
-/// Refuses with [`Refusal::Command`] and [`Refusal::Room`].
+/// # Errors
+///
+/// [`Refusal::Command`], then [`Refusal::Room`], as [`write_command`].
+///
+/// # Examples
 ///
 /// ```
 /// use ketphiroj::{code, function, write_numbered, Refusal};
@@ -124,8 +143,12 @@ pub fn write_numbered(number: u32, code: u8, function: u8, value: u32, room: &mu
 /// A numbered command of several fields is built the same way: the four bytes of the number and the type come first, the
 /// first field is written behind 5 bytes, and the message is of type [`NUMBERED`].
 ///
-/// Refuses with [`Refusal::Command`] where a board would not accept a message of this type with this field, then with
-/// [`Refusal::Room`].
+/// # Errors
+///
+/// [`Refusal::Command`] where a board would not accept a message of this type with this field, then [`Refusal::Room`] where the
+/// field does not fit behind the first `length` bytes.
+///
+/// # Examples
 ///
 /// ```
 /// use ketphiroj::{append_field, code, function, write_message, Refusal, NUMBERED};

@@ -10,6 +10,7 @@ pub const PAGE: usize = 64;
 /// The values that a page keeps, one or none under each code: those of [`Settings`](crate::Settings), and the gyroscope's
 /// ranges 6 and 7 of older boards.
 #[derive(Clone, Copy, Debug, Default, PartialEq, Eq)]
+#[must_use]
 pub struct Values {
     /// Under code 01.
     pub baud: Option<u32>,
@@ -25,7 +26,11 @@ pub struct Values {
 impl Values {
     /// The values that a blank or sound page keeps.
     ///
-    /// Refuses with [`Refusal::PageLength`] and [`Refusal::Page`].
+    /// # Errors
+    ///
+    /// [`Refusal::PageLength`] where the page is not 64 bytes, then [`Refusal::Page`] where it is neither blank nor sound.
+    ///
+    /// # Examples
     ///
     /// ```
     /// use ketphiroj::{factory_page, Refusal, Values};
@@ -59,7 +64,11 @@ impl Values {
     /// Writes the page anew so that it keeps these values; blank with none. It is for pages that no board runs on: a page
     /// that is given a smaller number, or none, lets a board accept numbers again that it has accepted before.
     ///
-    /// Refuses with [`Refusal::PageLength`], and with [`Refusal::Page`] where a value is none that a page may keep.
+    /// # Errors
+    ///
+    /// [`Refusal::PageLength`] where the page is not 64 bytes, then [`Refusal::Page`] where a value is none that a page may keep.
+    ///
+    /// # Examples
     ///
     /// ```
     /// use ketphiroj::{Refusal, Values};
@@ -93,7 +102,11 @@ impl Values {
 
 /// Whether a page is blank or sound.
 ///
-/// Refuses with [`Refusal::PageLength`] and [`Refusal::Page`].
+/// # Errors
+///
+/// [`Refusal::PageLength`] where the page is not 64 bytes, then [`Refusal::Page`] where it is neither.
+///
+/// # Examples
 ///
 /// ```
 /// use ketphiroj::{check_page, factory_page, Refusal};
@@ -109,8 +122,12 @@ pub fn check_page(page: &[u8]) -> Result<(), Refusal> {
 /// Copies the body under a code to the room's front, and gives its length: from the saved page if it has the entry,
 /// else from the factory page; nothing where neither has it. [`factory_page`] has no number.
 ///
-/// Refuses with [`Refusal::PageLength`] and [`Refusal::Page`] of the saved page, then with those of the factory page,
-/// then with [`Refusal::Room`].
+/// # Errors
+///
+/// [`Refusal::PageLength`] and [`Refusal::Page`] of the saved page, then those of the factory page, then [`Refusal::Room`] where the
+/// body does not fit.
+///
+/// # Examples
 ///
 /// ```
 /// use ketphiroj::{code, copy_body, factory_page, Refusal};
@@ -128,6 +145,7 @@ pub fn copy_body(saved: &[u8], factory: &[u8], code: u8, room: &mut [u8]) -> Res
 }
 
 /// The writing of the factory values; it keeps no number.
+#[must_use]
 pub fn factory_page() -> [u8; PAGE] {
     let mut page = [0; PAGE];
     let written = ffi::factory_page(&mut page);

@@ -1,7 +1,7 @@
 //! The numbers with which a call refuses.
 
-use std::error::Error;
-use std::fmt;
+use core::error::Error;
+use core::fmt;
 
 /// Why a call refused: the paper's numbers 16 to 28. A refused call writes nothing and changes nothing; only
 /// [`Board::start_in_place`](crate::Board::start_in_place) clears the board all the same.
@@ -64,6 +64,7 @@ impl Refusal {
     ];
 
     /// The paper's number.
+    #[must_use]
     pub const fn number(self) -> u8 {
         self as u8
     }
@@ -76,6 +77,7 @@ impl Refusal {
     /// assert_eq!(Refusal::from_number(18), Some(Refusal::Room));
     /// assert_eq!(Refusal::from_number(0), None);
     /// ```
+    #[must_use]
     pub fn from_number(number: u8) -> Option<Refusal> {
         let place = number.checked_sub(Refusal::Port.number())?;
         Refusal::ALL.get(usize::from(place)).copied()

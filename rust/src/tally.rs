@@ -3,6 +3,7 @@
 use crate::board::Outcome;
 use crate::ffi;
 use crate::refusal::Refusal;
+use crate::reply::ReplyError;
 
 /// The totals of one port since the board was started, which say how bad its line is.
 ///
@@ -58,16 +59,17 @@ pub struct Tally {
     pub skipped: u64,
     /// Bytes of good messages, those with right sums, whatever they were answered.
     pub good: u64,
-    /// Messages by the first error in the reply, 0 to 7: of a command with several fields the first row's.
+    /// Messages by the number of the first error in the reply, 0 to 7: of a command with several fields the first row's.
     ///
-    /// 0: done. 1: damaged on the line, or noise that looked like a message. 2: a type that the board does not know. 3: a code that
-    /// it does not know, or no field. 4: a command that is not well made. 5: a command that was sent again, or has no number where it
-    /// needs one. 6: a range that only older boards have. 7: a command that may not come on this port.
+    /// 0: done. The others are those of [`ReplyError`]. 1: damaged on the line, or noise that looked like a message. 2: a type that the
+    /// board does not know. 3: a code that it does not know, or no field. 4: a command that is not well made. 5: a command that was sent
+    /// again, or has no number where it needs one. 6: a range that only older boards have. 7: a command that may not come on this port.
     pub errors: [u64; 8],
 }
 
 impl Tally {
     /// Zeros, as at the start.
+    #[must_use]
     pub const fn new() -> Tally {
         Tally { taken: 0, skipped: 0, good: 0, errors: [0; 8] }
     }
@@ -85,7 +87,7 @@ impl Tally {
     /// // The first 5 of 8 bytes are held; then the others come, and behind them 2 of noise.
     /// let mut own = Tally::new();
     /// own.count(&Ok(Outcome::UsedUp { taken: 5, skipped: 0 }), 0, 5);
-    /// own.count(&Ok(Outcome::Reported { taken: 3, skipped: 0, saved: false, error: 0, reply: 10 }), 5, 0);
+    /// own.count(&Ok(Outcome::Reported { taken: 3, skipped: 0, saved: false, error: None, reply: 10 }), 5, 0);
     /// own.count(&Ok(Outcome::UsedUp { taken: 2, skipped: 2 }), 0, 0);
     /// own.count(&Err(Refusal::Room), 0, 0);
     /// assert_eq!(own, Tally { taken: 10, skipped: 2, good: 8, errors: [1, 0, 0, 0, 0, 0, 0, 0] });
@@ -93,6 +95,7 @@ impl Tally {
     pub fn count(&mut self, answer: &Result<Outcome, Refusal>, before: usize, after: usize) {
         match *answer {
             Ok(Outcome::Reported { taken, skipped, error, .. }) => {
+                let error = error.map_or(0, ReplyError::number);
                 self.count_call(0, taken, skipped, error, before, after)
             }
             Ok(Outcome::UsedUp { taken, skipped }) => self.count_call(1, taken, skipped, 0, before, after),

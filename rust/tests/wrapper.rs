@@ -2,9 +2,9 @@
 //! gyroscope's ranges of older boards, silences, read-only boards, and the totals of each port.
 
 use ketphiroj::{
-    append_field, check_message, check_page, code, copy_body, factory_page, ffi, field_data, function, read_field,
-    read_reply, read_rows, write_command, write_data, write_message, write_numbered, Board, Outcome, Port, Profile,
-    Refusal, Reply, Settings, Tally, Values, NUMBERED, PAGE,
+    append_field, check_message, check_page, code, copy_body, factory_page, ffi, field_data, field_range, function,
+    read_field, read_reply, read_rows, write_command, write_data, write_message, write_numbered, Board, Field, Outcome,
+    Port, Profile, Refusal, Reply, ReplyError, Settings, Tally, Values, NUMBERED, PAGE,
 };
 
 const BLANK: [u8; PAGE] = [0xFF; PAGE];
@@ -13,6 +13,11 @@ const BLANK: [u8; PAGE] = [0xFF; PAGE];
 fn hex(text: &str) -> Vec<u8> {
     let digits: Vec<u32> = text.chars().filter_map(|digit| digit.to_digit(16)).collect();
     digits.chunks(2).map(|pair| (pair[0] * 16 + pair[1]) as u8).collect()
+}
+
+/// The number of an error, 0 where there is none.
+fn number(error: Option<ReplyError>) -> u8 {
+    error.map_or(0, ReplyError::number)
 }
 
 /// The totals of one message with this error.
@@ -69,7 +74,8 @@ fn damaged_ping() {
     let (mut board, mut page) = fresh();
     let mut room = [0x77; Board::REPLY];
     let outcome = board.feed(0, &hex("A5A5010202004F24"), &mut room, &mut page);
-    assert_eq!(outcome, Ok(Outcome::Reported { taken: 8, skipped: 1, saved: false, error: 1, reply: 10 }));
+    let error = Some(ReplyError::Checksum);
+    assert_eq!(outcome, Ok(Outcome::Reported { taken: 8, skipped: 1, saved: false, error, reply: 10 }));
     assert_eq!(room[10..], [0x77; Board::REPLY - 10]);
     assert_eq!(board.first.held, 7);
     assert_eq!(board.feed(0, &[], &mut room, &mut page), Ok(Outcome::UsedUp { taken: 0, skipped: 7 }));
@@ -85,7 +91,8 @@ fn stray_bytes() {
         let (mut board, mut page) = fresh();
         let mut room = [0; Board::REPLY];
         let outcome = board.feed(0, &[vec![0xA5; run], ping.clone()].concat(), &mut room, &mut page);
-        assert_eq!(outcome, Ok(Outcome::Reported { taken: run + 8, skipped: run, saved: false, error: 0, reply: 10 }));
+        let reported = Outcome::Reported { taken: run + 8, skipped: run, saved: false, error: None, reply: 10 };
+        assert_eq!(outcome, Ok(reported));
         assert_eq!(room[..10], hex("A5A5010480020200D3CF"));
         let tally0 = Tally { taken: run as u64 + 8, skipped: run as u64, good: 8, errors: one(0) };
         assert_eq!(board, Board { tally0, ..fresh().0 });
@@ -113,7 +120,7 @@ fn saves() {
     let (mut board, mut page) = fresh();
     let mut room = [0; Board::REPLY];
     let saved = board.feed(0, &hex("A5A50203010103 547F"), &mut room, &mut page);
-    assert_eq!(saved, Ok(Outcome::Reported { taken: 9, skipped: 0, saved: true, error: 0, reply: 10 }));
+    assert_eq!(saved, Ok(Outcome::Reported { taken: 9, skipped: 0, saved: true, error: None, reply: 10 }));
     assert_eq!(page[..8], hex("01 010404 0001C200"));
     assert_eq!(page[8..], [0xFF; 56]);
 
@@ -155,7 +162,7 @@ fn three_settings() {
     let save = command(function::SAVE, &three);
     let mut room = [0; Board::REPLY];
     let saved = board.feed(0, &save, &mut room, &mut page);
-    assert_eq!(saved, Ok(Outcome::Reported { taken: 15, skipped: 0, saved: true, error: 0, reply: 18 }));
+    assert_eq!(saved, Ok(Outcome::Reported { taken: 15, skipped: 0, saved: true, error: None, reply: 18 }));
     assert_eq!(room[..18], done);
     assert_eq!(page[..16], hex("03 010A04 070E01 080F01 000E1000 04 05"));
 
@@ -170,7 +177,7 @@ fn three_settings() {
 
     let reported = &replies(&mut board, &command(function::REPORT, &three), &mut page)[0];
     let rows: Vec<Reply> = read_rows(reported).unwrap().collect();
-    let row = |(echo, value)| Reply { kind: 0x02, echo, error: 0, value: Some(value) };
+    let row = |(echo, value)| Reply { kind: 0x02, echo, error: None, value: Some(value) };
     assert_eq!(rows, three.map(row));
     assert_eq!(read_reply(reported, 2), Ok(rows[2]));
     assert_eq!(read_reply(reported, 3), Err(Refusal::NoField));
@@ -184,7 +191,7 @@ fn errors_among_fields() {
         let mut message = [0; 261];
         let length = write_message(kind, &hex(payload), &mut message).unwrap();
         let replies = replies(&mut board, &message[..length], &mut page);
-        let rows: Vec<(u8, u8)> = read_rows(&replies[0]).unwrap().map(|row| (row.echo, row.error)).collect();
+        let rows: Vec<(u8, u8)> = read_rows(&replies[0]).unwrap().map(|row| (row.echo, number(row.error))).collect();
         (rows, board.settings.gyroscope, page != BLANK)
     };
     assert_eq!(reply(0x02, "08020108 6300 08020105 080103"), (vec![(8, 4), (0x63, 3), (8, 0), (8, 0)], 5, true));
@@ -228,7 +235,7 @@ impl Driver {
         Driver::start_in(self.board.profile(), self.stored)
     }
 
-    /// Feeds one whole message, stores the page where it was written, and gives the errors of the reply's rows.
+    /// Feeds one whole message, stores the page where it was written, and gives the errors of the reply's rows by number.
     fn errors(&mut self, port: u8, message: &[u8]) -> Vec<u8> {
         let before = self.page;
         let mut room = [0; Board::REPLY];
@@ -240,8 +247,8 @@ impl Driver {
         } else {
             assert_eq!(self.page, before);
         }
-        let errors: Vec<u8> = read_rows(&room[..reply]).unwrap().map(|row| row.error).collect();
-        assert_eq!(error, errors[0]);
+        let errors: Vec<u8> = read_rows(&room[..reply]).unwrap().map(|row| number(row.error)).collect();
+        assert_eq!(number(error), errors[0]);
         errors
     }
 
@@ -389,6 +396,7 @@ fn numbered_commands_refused() {
         let mut room = [0; Board::REPLY];
         let mut bytes = message(NUMBERED, &hex(payload));
         let outcome = board.feed(0, &bytes, &mut room, &mut page).unwrap();
+        let error = ReplyError::from_number(error);
         let reported = Outcome::Reported { taken: bytes.len(), skipped: 0, saved: spent, error, reply: 10 };
         assert_eq!(outcome, reported, "{payload}");
         let row = Reply { kind: NUMBERED, echo, error, value: None };
@@ -400,7 +408,8 @@ fn numbered_commands_refused() {
         bytes[end] ^= 1;
         let mut page = BLANK;
         let outcome = Board::start(Profile::Full, &page).unwrap().feed(0, &bytes, &mut room, &mut page).unwrap();
-        assert_eq!(outcome, Outcome::Reported { taken: bytes.len(), skipped: 1, saved: false, error: 1, reply: 10 });
+        let error = Some(ReplyError::Checksum);
+        assert_eq!(outcome, Outcome::Reported { taken: bytes.len(), skipped: 1, saved: false, error, reply: 10 });
         assert_eq!((room[6..8].to_vec(), page), (vec![0, 1], BLANK));
     }
 }
@@ -498,13 +507,13 @@ fn old_ranges_written_and_read() {
         assert_eq!(append_field(0x02, code::GYROSCOPE, function::USE, range, 0, &mut room), Err(Refusal::Command));
         assert_eq!(room, [0x11; 32]);
         for kind in [0x02, NUMBERED] {
-            let value = Reply { kind, echo: code::GYROSCOPE, error: 0, value: Some(range) };
+            let value = Reply { kind, echo: code::GYROSCOPE, error: None, value: Some(range) };
             assert_eq!(read_reply(&message(kind, &[0x80, 2, 8, 0, 8, 1, range as u8]), 0), Ok(value));
         }
     }
     // What is not written is not looked at.
     assert_eq!(write_command(code::GYROSCOPE, function::LOAD, 6, &mut room), Ok(9));
-    let error = Reply { kind: 0x02, echo: code::GYROSCOPE, error: 6, value: None };
+    let error = Reply { kind: 0x02, echo: code::GYROSCOPE, error: Some(ReplyError::Unsupported), value: None };
     assert_eq!(read_reply(&hex("A5A50204 80020806 E0E7"), 0), Ok(error));
     assert_eq!(read_reply(&message(0x02, &hex("80020808")), 0), Err(Refusal::Kind));
     assert_eq!(read_reply(&message(0x02, &hex("80020806 080106")), 0), Err(Refusal::Kind));
@@ -622,7 +631,8 @@ fn silence_behind_false_headers() {
     for (port, header) in [(0, "A5A501FF"), (1, "A5A502FF A5A501C8 A5A5A5 A5A57C20"), (1, "A5"), (0, "A5A5A5A5A5 00")] {
         let (mut board, mut page) = fresh();
         let mut room = [0; Board::REPLY];
-        board.feed(1 - port, &hex(PING)[..5], &mut room, &mut page).unwrap();
+        let outcome = board.feed(1 - port, &hex(PING)[..5], &mut room, &mut page);
+        assert_eq!(outcome, Ok(Outcome::UsedUp { taken: 5, skipped: 0 }));
         let (header, held) = (hex(header), [hex(header), hex(PING), hex("A5A50102")].concat());
         let named = |board: Board| if port == 0 { board.first } else { board.second };
         // Put into the port: a feed would not wait behind each of these headers.
@@ -637,7 +647,7 @@ fn silence_behind_false_headers() {
         assert_eq!(answers, [(header.len(), false, hex(PING_REPLY)), (4, false, vec![])]);
         assert_eq!(named(board), Port::new());
         let outcome = board.feed(1 - port, &hex(PING)[5..], &mut room, &mut page);
-        assert_eq!(outcome, Ok(Outcome::Reported { taken: 3, skipped: 0, saved: false, error: 0, reply: 10 }));
+        assert_eq!(outcome, Ok(Outcome::Reported { taken: 3, skipped: 0, saved: false, error: None, reply: 10 }));
     }
 }
 
@@ -677,7 +687,7 @@ fn feed_before_a_silence_is_drained() {
     let ping = hex(PING);
     assert!(replies(&mut board, &[hex("A5A501FF"), ping.clone(), ping[..3].to_vec()].concat(), &mut page).is_empty());
     let mut room = [0; Board::REPLY];
-    let reported = Ok(Outcome::Reported { taken: 0, skipped: 4, saved: false, error: 0, reply: 10 });
+    let reported = Ok(Outcome::Reported { taken: 0, skipped: 4, saved: false, error: None, reply: 10 });
     assert_eq!(board.silence(0, &mut room, &mut page), reported);
     assert_eq!(board.first.held, 3);
     assert_eq!(replies(&mut board, &ping[3..], &mut page), [hex(PING_REPLY)]);
@@ -689,7 +699,7 @@ fn silence_and_numbers() {
     let held = [hex("A5A57CFF"), numbered(1, code::GYROSCOPE, function::USE, 5)].concat();
     let (mut board, mut page) = fresh();
     let mut room = [0; Board::REPLY];
-    for (saved, error) in [(true, 0), (false, 5)] {
+    for (saved, error) in [(true, None), (false, Some(ReplyError::Number))] {
         assert!(replies(&mut board, &held, &mut page).is_empty());
         let outcome = board.silence(0, &mut room, &mut page);
         assert_eq!(outcome, Ok(Outcome::Reported { taken: 0, skipped: 4, saved, error, reply: 10 }));
@@ -749,7 +759,8 @@ fn read_only_board() {
         assert_eq!(Driver::start(BLANK).errors(1, &bytes), port_0, "{bytes:02X?}");
     }
     let (mut board, mut page, mut room) = (Board::start(Profile::ReadOnly, &BLANK).unwrap(), BLANK, [0; Board::REPLY]);
-    board.feed(1, &damaged, &mut room, &mut page).unwrap();
+    let outcome = board.feed(1, &damaged, &mut room, &mut page);
+    assert!(matches!(outcome, Ok(Outcome::Reported { error: Some(ReplyError::Checksum), saved: false, .. })));
     assert_eq!(room[..10], message(NUMBERED, &hex("80020001")));
 }
 
@@ -784,7 +795,7 @@ fn day_beside(other: impl Fn(usize, &mut Board, &mut [u8; PAGE])) -> Seen {
 #[test]
 fn port_0_sees_nothing_of_port_1() {
     let feed = |board: &mut Board, bytes: &[u8], page: &mut [u8; PAGE]| {
-        board.feed(1, bytes, &mut [0; Board::REPLY], page).unwrap();
+        assert_eq!(board.feed(1, bytes, &mut [0; Board::REPLY], page).unwrap().taken(), bytes.len());
     };
     let alone = day_beside(|_, _, _| ());
     assert_eq!(alone.len(), 9);
@@ -796,7 +807,8 @@ fn port_0_sees_nothing_of_port_1() {
     let save = [hex("A5A502FF"), command(function::SAVE, &[(code::BAUD, 0)])].concat();
     let silent = day_beside(|_, board, page| {
         feed(board, &save, page);
-        board.silence(1, &mut [0; Board::REPLY], page).unwrap();
+        let outcome = board.silence(1, &mut [0; Board::REPLY], page);
+        assert!(matches!(outcome, Ok(Outcome::Reported { error: Some(ReplyError::NotAllowed), saved: false, .. })));
     });
     assert_eq!(silent, alone);
     let full = day_beside(|_, board, page| {
@@ -881,7 +893,7 @@ impl Counted {
             self.call(port, |board, page| board.feed(port, piece, &mut room, page)).unwrap()
         {
             piece = &piece[taken..];
-            assert_eq!(room[7], error);
+            assert_eq!(room[7], number(error));
         }
     }
 
@@ -946,8 +958,10 @@ fn totals_of_lines() {
 fn totals_of_ports() {
     let (mut board, mut page) = fresh();
     assert_eq!((board.tally(0), board.tally(1)), (Some(&Tally::new()), Some(&Tally::default())));
-    board.feed(0, &[0], &mut [0; Board::REPLY], &mut page).unwrap();
-    board.feed(1, &[0; 2], &mut [0; Board::REPLY], &mut page).unwrap();
+    for (port, taken) in [(0, 1), (1, 2)] {
+        let outcome = board.feed(port, &[0; 2][..taken], &mut [0; Board::REPLY], &mut page);
+        assert_eq!(outcome, Ok(Outcome::UsedUp { taken, skipped: taken }));
+    }
     assert_eq!((board.tally0.taken, board.tally1.taken), (1, 2));
     assert_eq!((board.tally(0), board.tally(1)), (Some(&board.tally0), Some(&board.tally1)));
     assert!((2..=255).all(|port| board.tally(port).is_none()));
@@ -1071,6 +1085,8 @@ fn refusals_of_the_other_calls() {
     };
     assert_eq!(read_field(&data(&[0x10, 2, 0]), 0), Err(Refusal::Fields));
     assert_eq!(read_field(&data(&[0x10, 0, 0x81, 1, 0]), 0), Err(Refusal::FieldSize));
+    assert_eq!(field_range(&data(&[0x10, 0, 0x81, 1, 0]), 0), Err(Refusal::FieldSize));
+    assert_eq!(field_range(&data(&[0x10, 0]), 1), Err(Refusal::NoField));
     assert_eq!(field_data(&data(&[0x10, 0]), 1), Err(Refusal::NoField));
     assert_eq!(field_data(&data(&[]), usize::MAX), Err(Refusal::NoField));
 }
@@ -1114,6 +1130,34 @@ fn refusals_have_their_numbers() {
     assert!(others.into_iter().all(|number| Refusal::from_number(number).is_none()));
 }
 
+/// The errors of a reply by number, name and text. A row with a number above 7 is no reply.
+#[test]
+fn reply_errors_have_their_numbers() {
+    let errors = [
+        (ReplyError::Checksum, "sums wrong (1)"),
+        (ReplyError::MessageType, "no such type (2)"),
+        (ReplyError::MessageCode, "no such code, or no field (3)"),
+        (ReplyError::Parameter, "wrong size, function or value (4)"),
+        (ReplyError::Number, "number not fresh, or missing (5)"),
+        (ReplyError::Unsupported, "not on this board (6)"),
+        (ReplyError::NotAllowed, "not allowed on this port (7)"),
+    ];
+    assert_eq!(errors.map(|(error, _)| error), ReplyError::ALL);
+    for (number, (error, text)) in (1..).zip(errors) {
+        assert_eq!((error.number(), ReplyError::from_number(number)), (number, Some(error)));
+        let boxed: Box<dyn std::error::Error> = error.into();
+        assert_eq!(boxed.to_string(), text);
+        let read = read_reply(&message(0x02, &[0x80, 2, 7, number]), 0).unwrap();
+        assert_eq!((read.error, read.result()), (Some(error), Err(error)));
+    }
+    let read = read_reply(&message(0x02, &[0x80, 2, 7, 0, 7, 1, 4]), 0).unwrap();
+    assert_eq!((read.error, read.result()), (None, Ok(Some(4))));
+    for number in 8..=255 {
+        assert_eq!(ReplyError::from_number(number), None);
+        assert_eq!(read_reply(&message(0x02, &[0x80, 2, 7, number]), 0), Err(Refusal::Kind));
+    }
+}
+
 /// A field of the longest size, and one behind it.
 #[test]
 fn part_of_the_message() {
@@ -1125,4 +1169,24 @@ fn part_of_the_message() {
     assert_eq!(field_data(&room, 0).unwrap(), (0..251).collect::<Vec<u8>>());
     assert_eq!(field_data(&room, 0).unwrap().as_ptr(), room[6..].as_ptr());
     assert_eq!(field_data(&room, 1), Ok(&[][..]));
+    assert_eq!((field_range(&room, 0), field_range(&room, 1)), (Ok(6..257), Ok(259..259)));
+
+    // One field alone fills the longest payload.
+    payload[1] = 253;
+    assert_eq!(write_message(0xA2, &payload, &mut room), Ok(261));
+    assert_eq!((field_range(&room, 0), field_range(&room, 1)), (Ok(6..259), Err(Refusal::NoField)));
+}
+
+/// The place and size of fields of each kind, by the library's own answer.
+#[test]
+fn places_of_fields() {
+    let axes = "3F800000 40000000 40400000";
+    let bytes = message(0xA2, &hex(&format!("8600 810C {axes} 8602ABCD 820C {axes}")));
+    let ranges: Vec<_> = (0..4).map(|k| field_range(&bytes, k).unwrap()).collect();
+    assert_eq!(ranges, [6..6, 8..20, 22..24, 26..38]);
+    for (k, range) in ranges.into_iter().enumerate() {
+        assert_eq!(field_data(&bytes, k), Ok(&bytes[range]));
+    }
+    let unknown = Field::Unknown { code: 0x86, place: 22 };
+    assert_eq!((read_field(&bytes, 2), field_range(&bytes, 4)), (Ok(unknown), Err(Refusal::NoField)));
 }

@@ -8,7 +8,7 @@
 
 mod painted;
 
-use ketphiroj::{read_rows, Board, Outcome, Port, Profile, PAGE};
+use ketphiroj::{read_rows, Board, Outcome, Port, Profile, ReplyError, PAGE};
 use painted::{own_stack, pages, print_heading, print_row};
 use raw::{PortCall, Start};
 
@@ -241,7 +241,8 @@ impl Case {
         match (outcome.expect("a sound board and page"), self.answer) {
             (Outcome::UsedUp { .. }, None) => {}
             (Outcome::Reported { reply, saved, .. }, Some((rows, error, entries))) => {
-                let errors: Vec<u8> = read_rows(&given.room[..reply]).expect("a reply").map(|row| row.error).collect();
+                let rows_read = read_rows(&given.room[..reply]).expect("a reply");
+                let errors: Vec<u8> = rows_read.map(|row| row.error.map_or(0, ReplyError::number)).collect();
                 assert_eq!((errors, saved), (vec![error; rows], entries > 0), "{}", self.name);
                 let first = if entries == 0 { 0xFF } else { entries };
                 assert!(!blank || given.page[0] == first, "{}: {:02X?}", self.name, given.page);

@@ -10,9 +10,10 @@ use crate::rights;
 use crate::silencing;
 use crate::wrapper::Wrapper;
 use ketphiroj::ffi::{self, FlatField, FlatPage, FlatReply, FlatValues, Started, StartedInPlace, Stepped, Written};
-use ketphiroj::{Board, Field, Outcome, Port, Profile, Refusal, Reply, Settings, Tally, Values, PAGE};
+use ketphiroj::{Board, Field, Outcome, Port, Profile, Refusal, Reply, ReplyError, Settings, Tally, Values, PAGE};
 use plain::{Reckoned, Told};
 use std::cell::Cell;
+use std::ops::Range;
 
 /// A fault. The table in main.rs has the group of cases that is to find it.
 #[derive(Clone, Copy, Debug, PartialEq, Eq)]
@@ -373,6 +374,21 @@ pub enum Fault {
     WrongRowWritesRoom,
     WrongRowForgetsHeld,
     WrongArrayClearsRow,
+    // Found in the place of a field.
+    FieldPlace,
+    AxesWithoutPlace,
+    PlaceAtSizeByte,
+    PlaceAtCode,
+    PlaceInPayload,
+    PlaceOf8Bits,
+    EmptyFieldUnplaced,
+    RefusedFieldPlaced,
+    // And in its size.
+    AxesWithoutSize,
+    SizeWithHeader,
+    UnknownSizeOf12,
+    SizeOf7Bits,
+    SizeToTheEnd,
     // Found in starts in place.
     SecondPortKept,
     LastByteKept,
@@ -388,7 +404,6 @@ pub enum Fault {
     StartOnThreeEntries,
     WholeWithoutSums,
     SignallingNanRead,
-    FieldPlace,
     FieldCopyInShortRoom,
     RoomThatJustFits,
     RangeModulo256,
@@ -428,11 +443,14 @@ pub enum Fault {
     WrappedRefusalKept,
     WrappedMessageCheck,
     WrappedReply,
+    WrappedReplyError,
     WrappedRows,
     WrappedAppendedField,
     WrappedNumbered,
     WrappedNumberRead,
     WrappedField,
+    WrappedFieldRange,
+    WrappedRangeWithHeader,
     WrappedFieldData,
     WrappedMessage,
     WrappedCommand,
@@ -590,12 +608,9 @@ impl Calls for Planted {
     }
 
     fn read_field(&self, message: &[u8], k: usize) -> FlatField {
-        let mut read = ffi::read_field(message, k);
+        let mut read = lenient::read_field(self.0, message, k);
         if self.is(Fault::SignallingNanRead) {
             read.y = quiet(read.y);
-        }
-        if self.is(Fault::FieldPlace) && read.number == 0 && read.place > 100 {
-            read.place -= 4;
         }
         read
     }
@@ -775,7 +790,7 @@ impl Wrapper for Planted {
         let mut outcome = board.feed(port, chunk, room, page);
         match (&mut outcome, self.0) {
             (Ok(Outcome::Reported { saved, .. }), Fault::WrappedSaveMark) => *saved = false,
-            (Ok(Outcome::Reported { error, .. }), Fault::WrappedErrorLost) => *error = 0,
+            (Ok(Outcome::Reported { error, .. }), Fault::WrappedErrorLost) => *error = None,
             (Ok(_), Fault::WrappedTotalsLost) => board.tally0 = tally,
             (Ok(Outcome::Reported { saved: true, .. }), Fault::WrappedPage) => page[63] = 0,
             (Ok(Outcome::UsedUp { .. }), Fault::WrappedRoom) => room[0] = 0xA5,
@@ -796,7 +811,7 @@ impl Wrapper for Planted {
         let mut outcome = self.next_refusal(Fault::WrappedSilence, board.silence(port, room, page));
         match (&mut outcome, self.0) {
             (Ok(Outcome::Reported { saved, .. }), Fault::WrappedSilenceMark) => *saved = false,
-            (Ok(Outcome::Reported { error, .. }), Fault::WrappedSilenceError) => *error = 0,
+            (Ok(Outcome::Reported { error, .. }), Fault::WrappedSilenceError) => *error = None,
             (Err(_), Fault::WrappedSilenceBoard) => board.second = Port::new(),
             _ => {}
         }
@@ -856,7 +871,17 @@ impl Wrapper for Planted {
     }
 
     fn wrapped_read_reply(&self, message: &[u8], row: usize) -> Result<Reply, Refusal> {
-        self.next_refusal(Fault::WrappedReply, ketphiroj::read_reply(message, row))
+        let read = self.next_refusal(Fault::WrappedReply, ketphiroj::read_reply(message, row));
+        // The names of 3 and 4 are exchanged.
+        let other = |error| match error {
+            ReplyError::MessageCode => ReplyError::Parameter,
+            ReplyError::Parameter => ReplyError::MessageCode,
+            error => error,
+        };
+        match read {
+            Ok(reply) if self.is(Fault::WrappedReplyError) => Ok(Reply { error: reply.error.map(other), ..reply }),
+            read => read,
+        }
     }
 
     fn wrapped_read_rows(&self, message: &[u8]) -> Result<Vec<Reply>, Refusal> {
@@ -867,6 +892,13 @@ impl Wrapper for Planted {
 
     fn wrapped_read_field(&self, message: &[u8], k: usize) -> Result<Field, Refusal> {
         self.next_refusal(Fault::WrappedField, ketphiroj::read_field(message, k))
+    }
+
+    fn wrapped_field_range(&self, message: &[u8], k: usize) -> Result<Range<usize>, Refusal> {
+        match self.next_refusal(Fault::WrappedFieldRange, ketphiroj::field_range(message, k)) {
+            Ok(range) if self.is(Fault::WrappedRangeWithHeader) => Ok(range.start - 2..range.end),
+            range => range,
+        }
     }
 
     fn wrapped_field_data<'a>(&self, message: &'a [u8], k: usize) -> Result<&'a [u8], Refusal> {
@@ -1080,7 +1112,7 @@ fn skip_first_of_two(fed: &mut Fed) {
 fn error_4_for_size_6(chunk: &[u8], room: &mut [u8]) {
     if chunk.len() > 7 && chunk[3] == 8 && chunk[5] == 6 {
         let (kind, echo) = (room[2], room[6]);
-        ffi::write_message(kind, &[0x80, 2, echo, 4], room);
+        assert_eq!(ffi::write_message(kind, &[0x80, 2, echo, 4], room).number, 0);
     }
 }
 
@@ -1091,7 +1123,8 @@ fn save_sent_range(chunk: &[u8], page: &mut [u8]) {
         0x07 => values.accelerometer = u32::from(chunk[7]),
         _ => values.gyroscope = u32::from(chunk[7]),
     }
-    ffi::write_page(values, page);
+    // One that no page may keep (20) leaves the page as it was.
+    let _ = ffi::write_page(values, page);
 }
 
 /// The fed port's bytes past the held ones, as they came.

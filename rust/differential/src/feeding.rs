@@ -144,8 +144,9 @@ pub fn call_wrapped(
     let mut wrapped_room = given.room();
     let outcome = given.wrapped_answer(wrapper, &mut board, &mut wrapped_room, &mut page);
     let plain::Fed { taken, skipped, error, saved, .. } = *fed;
+    let (error, reply) = (records::error(error), room.get(3).map_or(0, |&length| usize::from(length) + 6));
     let expected = match fed.number {
-        0 => Ok(ketphiroj::Outcome::Reported { taken, skipped, saved, error, reply: usize::from(room[3]) + 6 }),
+        0 => Ok(ketphiroj::Outcome::Reported { taken, skipped, saved, error, reply }),
         1 => Ok(ketphiroj::Outcome::UsedUp { taken, skipped }),
         number => Err(Refusal::from_number(number).ok_or("a number of no refusal")?),
     };

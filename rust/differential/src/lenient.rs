@@ -1,9 +1,10 @@
-//! Reply readers and writers of commands, of fields and of numbered commands that are wrong in one point.
+//! Reply readers, readers of a field's place and size, and writers of commands, of fields and of numbered commands that are wrong in
+//! one point.
 
 use crate::calls::{FieldGiven, NumberedGiven};
 use crate::faults::Fault;
 use crate::ranging::old;
-use ketphiroj::ffi::{self, FlatReply, Written};
+use ketphiroj::ffi::{self, FlatField, FlatReply, Written};
 use plain::{Part, Row};
 
 /// What a reader with the fault answers of one row; none for faults of other calls, and for what is no whole message.
@@ -136,6 +137,36 @@ fn readable(fault: Fault, code: u8, value: u32) -> bool {
     }
 }
 
+/// What a data reader with the fault answers.
+pub fn read_field(fault: Fault, message: &[u8], k: usize) -> FlatField {
+    let mut read = ffi::read_field(message, k);
+    if read.number != 0 {
+        // Behind the last field, where there is none of that number.
+        if fault == Fault::RefusedFieldPlaced && read.number == 27 {
+            read.place = message.len() - 2;
+        }
+        return read;
+    }
+    let axes = read.code == 0x81 || read.code == 0x82;
+    match fault {
+        Fault::FieldPlace if read.place > 100 => read.place -= 4,
+        // As an acceleration and a rate were read before version 0.2.0.
+        Fault::AxesWithoutPlace if axes => read.place = 0,
+        Fault::PlaceAtSizeByte => read.place -= 1,
+        Fault::PlaceAtCode => read.place -= 2,
+        Fault::PlaceInPayload => read.place -= 4,
+        Fault::PlaceOf8Bits => read.place %= 256,
+        Fault::EmptyFieldUnplaced if read.size == 0 => read.place = 0,
+        Fault::AxesWithoutSize if axes => read.size = 0,
+        Fault::SizeWithHeader => read.size += 2,
+        Fault::UnknownSizeOf12 => read.size = 12,
+        Fault::SizeOf7Bits => read.size %= 128,
+        Fault::SizeToTheEnd => read.size = message.len() - 2 - read.place,
+        _ => {}
+    }
+    read
+}
+
 /// The field of a command that the board no longer accepts; none for the others.
 fn old_field(code: u8, function: u8, value: u32) -> Option<[u8; 4]> {
     let range = u8::try_from(value).ok().filter(|&range| old(range))?;
@@ -188,7 +219,7 @@ pub fn append(fault: Fault, given: &FieldGiven, length: usize, room: &mut [u8]) 
         Fault::FieldAtTheFront => {
             let right = append(kind, value, &mut room.to_vec());
             if right.number == 0 {
-                ffi::append_field(kind, code, function, value, 0, room);
+                assert_eq!(ffi::append_field(kind, code, function, value, 0, room).number, 0);
             }
             right
         }

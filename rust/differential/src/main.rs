@@ -19,6 +19,7 @@ mod messages;
 mod numbered;
 mod numbering;
 mod pages;
+mod parts;
 mod ranges;
 mod ranging;
 mod readonly;
@@ -96,9 +97,10 @@ enum Group {
     Records,
     RecordedLists,
     TotalsRows,
+    FieldParts,
 }
 
-const GROUPS: [Group; 48] = [
+const GROUPS: [Group; 49] = [
     Group::Lists,
     Group::HardLists,
     Group::ReckonedLists,
@@ -147,6 +149,7 @@ const GROUPS: [Group; 48] = [
     Group::Records,
     Group::RecordedLists,
     Group::TotalsRows,
+    Group::FieldParts,
 ];
 
 impl Group {
@@ -208,6 +211,7 @@ impl Group {
             Group::StartsInPlace => &[0, 17, 19, 20],
             Group::Readers => &[0, 18, 21, 22, 23, 24, 25, 27],
             Group::Replies => &[0, 23, 27],
+            Group::FieldParts => &[0, 25, 27],
             Group::ReplyRows | Group::NumberedReplies => &[0, 21, 22, 23, 27],
             Group::WrittenMessages => &[0, 18, 26],
             Group::WrittenCommands | Group::AppendedFields | Group::WrittenNumbered => &[0, 18, 28],
@@ -252,6 +256,7 @@ impl Group {
             Group::NumberedReplies => numbered::replies(calls, rng, ran),
             Group::WrittenNumbered => numbered::write(calls, rng, ran),
             Group::StartsInPlace => in_place::all(calls, rng, ran),
+            Group::FieldParts => parts::all(calls, rng, ran),
             Group::Ranges => ranges::all(calls, rng, ran),
             Group::RangeLists => ranges::lists(calls, rng, ran),
             _ => self.case_of_silences(calls, rng, ran),
@@ -300,7 +305,7 @@ impl Group {
 }
 
 /// Each planted fault, and the group that is to find it.
-const FAULTS: [(Fault, Group); 418] = [
+const FAULTS: [(Fault, Group); 437] = [
     (Fault::ReplyOfError4, Group::Lists),
     (Fault::RoomPastTheReply, Group::Lists),
     (Fault::SkippedOfHeldMessage, Group::Lists),
@@ -332,12 +337,31 @@ const FAULTS: [(Fault, Group); 418] = [
     (Fault::WholeWithoutSums, Group::Readers),
     (Fault::SignallingNanRead, Group::Readers),
     (Fault::FieldPlace, Group::Readers),
+    (Fault::FieldPlace, Group::FieldParts),
+    (Fault::AxesWithoutPlace, Group::Readers),
+    (Fault::AxesWithoutPlace, Group::WrittenData),
+    (Fault::PlaceAtSizeByte, Group::Readers),
+    (Fault::PlaceAtCode, Group::Readers),
+    (Fault::PlaceInPayload, Group::Readers),
+    (Fault::PlaceOf8Bits, Group::FieldParts),
+    (Fault::EmptyFieldUnplaced, Group::FieldParts),
+    (Fault::RefusedFieldPlaced, Group::FieldParts),
+    (Fault::AxesWithoutSize, Group::Readers),
+    (Fault::AxesWithoutSize, Group::WrittenData),
+    (Fault::SizeWithHeader, Group::Readers),
+    (Fault::UnknownSizeOf12, Group::Readers),
+    (Fault::UnknownSizeOf12, Group::FieldParts),
+    (Fault::SizeOf7Bits, Group::FieldParts),
+    (Fault::SizeToTheEnd, Group::FieldParts),
     (Fault::FieldCopyInShortRoom, Group::Readers),
     (Fault::WrappedMessageCheck, Group::Readers),
     (Fault::WrappedField, Group::Readers),
+    (Fault::WrappedFieldRange, Group::Readers),
+    (Fault::WrappedRangeWithHeader, Group::FieldParts),
     (Fault::WrappedFieldData, Group::Readers),
     (Fault::Error5Refused, Group::Replies),
     (Fault::WrappedReply, Group::Replies),
+    (Fault::WrappedReplyError, Group::Replies),
     (Fault::RoomThatJustFits, Group::WrittenMessages),
     (Fault::WrappedMessage, Group::WrittenMessages),
     (Fault::RangeModulo256, Group::WrittenCommands),

@@ -113,14 +113,19 @@ pub fn reply(calls: &impl Calls, message: &[u8], row: usize, ran: &mut Ran) -> O
     ran.count(read.number);
     same("read_reply", &calls.read_reply(message, row), &records::reply(read))?;
     let plain::Reply { number, kind, echo, error, value } = read;
+    let error = records::error(error);
     let expected = if number == 0 { Ok(Reply { kind, echo, error, value }) } else { Err(number) };
     same("wrapped reply", &calls.wrapped_read_reply(message, row).map_err(Refusal::number), &expected)
 }
 
-fn field(calls: &impl Calls, message: &[u8], k: usize, ran: &mut Ran) -> Outcome {
+/// One field of a data message: what it is, and where its data are.
+pub fn field(calls: &impl Calls, message: &[u8], k: usize, ran: &mut Ran) -> Outcome {
     let (number, read) = plain::read_field(message, k);
     ran.count(number);
-    same("read_field", &calls.read_field(message, k), &records::field((number, read)))?;
+    same("read_field", &calls.read_field(message, k), &records::field(message, k))?;
+    let (_, place, size) = plain::field_place(message, k);
+    let expected = if number == 0 { Ok(place..place + size) } else { Err(number) };
+    same("range of a field", &calls.wrapped_field_range(message, k).map_err(Refusal::number), &expected)?;
     let expected = match read {
         _ if number != 0 => Err(number),
         plain::Field::Acceleration(bits) => Ok(Field::Acceleration(Axes::from(bits))),
@@ -131,14 +136,14 @@ fn field(calls: &impl Calls, message: &[u8], k: usize, ran: &mut Ran) -> Outcome
 }
 
 /// A field's data, copied to a room, and as a part of the message itself: the same bytes at the same place.
-fn field_copy(calls: &impl Calls, message: &[u8], k: usize, room: usize, ran: &mut Ran) -> Outcome {
+pub fn field_copy(calls: &impl Calls, message: &[u8], k: usize, room: usize, ran: &mut Ran) -> Outcome {
     let (number, _) = plain::read_field(message, k);
     let part = plain::field_data(message, k);
     let expected = |room: &mut [u8]| match number {
         0 => records::put(part, room),
         refused => records::written((refused, 0)),
     };
-    writing("copy_field", room, |room| calls.copy_field(message, k, room), expected, ran)?;
+    let _ = writing("copy_field", room, |room| calls.copy_field(message, k, room), expected, ran)?;
     let wrapped = calls.wrapped_field_data(message, k).map_err(Refusal::number);
     let expected = if number == 0 { Ok(part) } else { Err(number) };
     same("field_data", &wrapped, &expected)?;

@@ -1,7 +1,7 @@
 //! The plain reading's records as the library's.
 
 use ketphiroj::ffi::{FlatField, FlatReply, FlatValues, StartedInPlace, Written, TOTALS};
-use ketphiroj::{Board, Port, Profile, Settings, Tally};
+use ketphiroj::{Board, Port, Profile, ReplyError, Settings, Tally};
 
 fn port(port: &plain::Port) -> Port {
     Port { bytes: port.bytes, held: port.held }
@@ -70,12 +70,31 @@ pub fn reply(reply: plain::Reply) -> FlatReply {
     FlatReply { number, kind, echo, error, has_value: value.is_some(), value: value.unwrap_or(0) }
 }
 
-pub fn field((number, field): (u8, plain::Field)) -> FlatField {
-    match field {
-        plain::Field::Acceleration([x, y, z]) => FlatField { number, code: 0x81, place: 0, x, y, z },
-        plain::Field::Rate([x, y, z]) => FlatField { number, code: 0x82, place: 0, x, y, z },
-        plain::Field::Unknown { code, place } => FlatField { number, code, place, x: 0, y: 0, z: 0 },
+/// The wrapper's error of a number, none for 0. It is named here once more, from the papers' tables, and not by the wrapper's own.
+pub fn error(number: u8) -> Option<ReplyError> {
+    match number {
+        0 => None,
+        1 => Some(ReplyError::Checksum),
+        2 => Some(ReplyError::MessageType),
+        3 => Some(ReplyError::MessageCode),
+        4 => Some(ReplyError::Parameter),
+        5 => Some(ReplyError::Number),
+        6 => Some(ReplyError::Unsupported),
+        7 => Some(ReplyError::NotAllowed),
+        _ => panic!("no reply has the error {number}"),
     }
+}
+
+/// What field number k is, with its place and size.
+pub fn field(message: &[u8], k: usize) -> FlatField {
+    let (number, field) = plain::read_field(message, k);
+    let (_, place, size) = plain::field_place(message, k);
+    let (code, [x, y, z]) = match field {
+        plain::Field::Acceleration(axes) => (0x81, axes),
+        plain::Field::Rate(axes) => (0x82, axes),
+        plain::Field::Unknown { code, .. } => (code, [0; 3]),
+    };
+    FlatField { number, code, place, size, x, y, z }
 }
 
 pub fn values(values: &plain::Values) -> FlatValues {

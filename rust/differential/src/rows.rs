@@ -16,7 +16,7 @@ pub fn rows(calls: &impl Calls, message: &[u8], ran: &mut Ran) -> Outcome {
         if number != 0 {
             break number;
         }
-        read.push(Reply { kind, echo, error, value });
+        read.push(Reply { kind, echo, error: records::error(error), value });
     };
     for row in (0..read.len() + 2).chain([16, 17, 1 << 32, usize::MAX]) {
         reply(calls, message, row, ran).map_err(|text| format!("{text}\n  row {row} of {}", hex(message)))?;

@@ -8,18 +8,22 @@ use crate::group::{filled, same, Outcome, Ran};
 use crate::lists::{hex, or_shrink};
 use crate::records;
 use ketphiroj::ffi::{Stepped, TOTALS};
-use ketphiroj::{Board, Port, Refusal, Tally};
+use ketphiroj::{Board, Port, Refusal, ReplyError, Tally};
 use plain::generate::counting::{self, Turn, Wrong};
 use plain::generate::{self, numbered, silences, Rng, Step};
 use plain::Told;
 
 // The driver's own record.
 
-/// What the wrapper gives of a call with these counts; none where no call is answered with the number.
+/// What the wrapper gives of a call with these counts; none where no call is answered with the number, or no reply has the error.
 fn wrapped_answer(told: &Told) -> Option<Result<ketphiroj::Outcome, Refusal>> {
     let Told { taken, skipped, error, .. } = *told;
     match told.number {
-        0 => Some(Ok(ketphiroj::Outcome::Reported { taken, skipped, saved: false, error, reply: 10 })),
+        0 if error > 7 => None,
+        0 => {
+            let error = records::error(error);
+            Some(Ok(ketphiroj::Outcome::Reported { taken, skipped, saved: false, error, reply: 10 }))
+        }
         1 => Some(Ok(ketphiroj::Outcome::UsedUp { taken, skipped })),
         number => Refusal::from_number(number).map(Err),
     }
@@ -181,10 +185,10 @@ impl<C: Calls> Recorded<'_, C> {
                 let mut after = board;
                 let answer = given.wrapped_answer(self.calls, &mut after, &mut room, page);
                 self.calls.wrapped_count(record, &answer, before, named(port, &after).held);
-                let error = answer.map_or(0, |outcome| match outcome {
-                    ketphiroj::Outcome::Reported { error, .. } => error,
-                    ketphiroj::Outcome::UsedUp { .. } => 0,
-                });
+                let error = match answer {
+                    Ok(ketphiroj::Outcome::Reported { error, .. }) => error.map_or(0, ReplyError::number),
+                    Ok(ketphiroj::Outcome::UsedUp { .. }) | Err(_) => 0,
+                };
                 (number_of(&answer), error, after)
             }
         };

@@ -3,6 +3,7 @@
 use crate::calls::{FieldGiven, NumberedGiven};
 use ketphiroj::{Board, Field, Outcome, Profile, Refusal, Reply, Tally, Values, PAGE};
 use plain::Told;
+use std::ops::Range;
 
 /// The wrapper's calls. An implementation changes some of them to plant a fault: the library's own calls are compared
 /// first, so a fault in those would never come as far as the wrapper's.
@@ -85,6 +86,10 @@ pub trait Wrapper {
 
     fn wrapped_read_field(&self, message: &[u8], k: usize) -> Result<Field, Refusal> {
         ketphiroj::read_field(message, k)
+    }
+
+    fn wrapped_field_range(&self, message: &[u8], k: usize) -> Result<Range<usize>, Refusal> {
+        ketphiroj::field_range(message, k)
     }
 
     fn wrapped_field_data<'a>(&self, message: &'a [u8], k: usize) -> Result<&'a [u8], Refusal> {

@@ -47,7 +47,7 @@ pub use listing::listing;
 pub use message::{check_message, fields_of, message, sums, sums_right, Part, Sums};
 pub use page::{body, check_page, factory_page, read_page, values, write_page, Values};
 pub use port::{feed, silence, start, start_in_place, Board, Fed, Port, StartedInPlace};
-pub use readers::{field_data, read_field, read_reply, Field, Reply};
+pub use readers::{field_data, field_place, read_field, read_reply, Field, Reply};
 pub use reckoning::{drained, Answered, Draining, Reckoned, Reckoning};
 pub use scan::{scan, scan_marked, Event};
 pub use sum_law::{adds_up, Accepted, SumLaw};

@@ -133,6 +133,16 @@ pub fn read_field(message: &[u8], k: usize) -> (u8, Field) {
     (number::DONE, field)
 }
 
+/// Which part of the message the data bytes of field number k are, whatever the field is: the number, the index of the first of
+/// them, and how many there are. A refusal gives "zeros and an empty part" (01-087).
+pub fn field_place(message: &[u8], k: usize) -> (u8, usize, usize) {
+    match field(message, k) {
+        // 01-006: "A5 A5, type, length L" stand before the payload. 01-011: "code, size n, n data bytes".
+        Ok(part) => (number::DONE, 4 + part.place, part.data.len()),
+        Err(refused) => (refused, 0, 0),
+    }
+}
+
 /// 01-091: "A field's data bytes are also handed out as that part of the message itself." A refusal gives an empty
 /// part.
 pub fn field_data(message: &[u8], k: usize) -> &[u8] {

@@ -306,6 +306,7 @@ fn data_reader() {
     assert_eq!(read_field(&table_63, 1), (0, Field::Rate(rate)));
     assert_eq!(read_field(&table_63, 2), (27, refused));
     assert_eq!(read_field(&table_63, usize::MAX), (27, refused));
+    assert_eq!((field_place(&table_63, 0), field_place(&table_63, 1)), ((0, 6, 12), (0, 20, 12)));
     assert_eq!(field_data(&table_63, 0), &table_63[6..18]);
     assert_eq!(field_data(&table_63, 1), &table_63[20..32]);
     assert!(std::ptr::eq(field_data(&table_63, 1).as_ptr(), &table_63[20]));
@@ -322,6 +323,7 @@ fn data_reader() {
     let table_69 = hex("A5A5A2068604000003FD7CB4");
     assert_eq!(read_field(&table_69, 0), (0, Field::Unknown { code: 0x86, place: 6 }));
     assert_eq!(field_data(&table_69, 0), hex("000003FD"));
+    assert_eq!(field_place(&table_69, 0), (0, 6, 4));
 
     let data = |text: &str| message(0xA2, &hex(text));
     for (bytes, k, expected) in [
@@ -343,12 +345,14 @@ fn data_reader() {
     ] {
         assert_eq!(read_field(&bytes, k), (expected, refused), "{bytes:02X?}");
         assert_eq!(field_data(&bytes, k), []);
+        assert_eq!(field_place(&bytes, k), (expected, 0, 0));
     }
     let two = data("8000 8303 010203");
     assert_eq!(read_field(&two, 0), (0, Field::Unknown { code: 0x80, place: 6 }));
     assert_eq!(read_field(&two, 1), (0, Field::Unknown { code: 0x83, place: 8 }));
     assert_eq!(field_data(&two, 0), []);
     assert_eq!(field_data(&two, 1), [1, 2, 3]);
+    assert_eq!((field_place(&two, 0), field_place(&two, 1)), ((0, 6, 0), (0, 8, 3)));
 }
 
 /// "what it writes is read back, and a message that reads as exactly these two fields is written back to the same
@@ -368,7 +372,9 @@ fn data_round() {
         assert_eq!(read_field(&room, 2).0, 27);
 
         let other = generate::data(&mut rng);
-        numbers[usize::from(read_field(&other, 1).0)] += 1;
+        let (number, place, size) = field_place(&other, 1);
+        assert_eq!((number, &other[place..place + size]), (read_field(&other, 1).0, field_data(&other, 1)));
+        numbers[usize::from(number)] += 1;
         let fields = [read_field(&other, 0).1, read_field(&other, 1).1];
         if let [Field::Acceleration(acceleration), Field::Rate(rate)] = fields {
             if read_field(&other, 2).0 == 27 {

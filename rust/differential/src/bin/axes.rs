@@ -28,7 +28,7 @@ fn expected([acceleration, rate]: [[u32; 3]; 2]) -> [u8; 32] {
 }
 
 fn read_back(message: &[u8], k: usize, code: u8, [x, y, z]: [u32; 3]) -> bool {
-    ffi::read_field(message, k) == FlatField { number: 0, code, place: 0, x, y, z }
+    ffi::read_field(message, k) == FlatField { number: 0, code, place: 6 + 14 * k, size: 12, x, y, z }
 }
 
 fn right(pattern: u32) -> bool {
@@ -44,8 +44,8 @@ fn right(pattern: u32) -> bool {
 /// A comparison that cannot fail would be none.
 fn another_axis_is_told() -> bool {
     let mut room = [0; 34];
-    ffi::write_data([1, 2, 3], [4, 5, 6], &mut room);
-    read_back(&room, 0, 0x81, [1, 2, 3]) && !read_back(&room, 0, 0x81, [1, 2, 4])
+    let written = ffi::write_data([1, 2, 3], [4, 5, 6], &mut room);
+    written.number == 0 && read_back(&room, 0, 0x81, [1, 2, 3]) && !read_back(&room, 0, 0x81, [1, 2, 4])
 }
 
 /// Runs the patterns in 64 parts, with a line of progress for each.
