@@ -70,19 +70,19 @@ bytes-patterns bs h n code place size =
     axes-patterns (number (take 4 bs)) (number (take 4 (drop 4 bs))) (number (take 4 (drop 8 bs)))
     (four-pattern bs h) (four-pattern (drop 4 bs) (drop-bytes 4 bs h)) (four-pattern (drop 8 bs) (drop-bytes 8 bs h)) n code place size
 
-found-back : (n : ℕ) (f : Found) → Bytes (f .field .content) → fieldReadFrom (flatField (readOn n (some f))) ≡ readOn n (some f)
+found-back : (n : ℕ) (f : Found) → Bytes (f .field .content) → fieldReadFrom (flatField (readOn (some f) n)) ≡ readOn (some f) n
 unfolding sampleOf axesOf
 found-back n f h = go (eqb (f .field .code) 0x81) refl (eqb (f .field .code) 0x82) refl
   where
     go : (a : Bool) → eqb (f .field .code) 0x81 ≡ a → (r : Bool) → eqb (f .field .code) 0x82 ≡ r
-        → fieldReadFrom (flatOn (sampleOn a r (f .field) (f .place)) (readOn n (some f)))
+        → fieldReadFrom (flatOn (sampleOn a r (f .field) (f .place)) (readOn (some f) n))
         ≡ record { number = n; field = sampleOn a r (f .field) (f .place); place = f .place; size = f .field .size }
     go true p r q = ap fieldReadFrom (bytes-patterns (f .field .content) h n 0x81 (f .place) (f .field .size))
     go false p true q = ap fieldReadFrom (bytes-patterns (f .field .content) h n 0x82 (f .place) (f .field .size))
     go false p false q = rw (p, q)
 
 read-back : (n : ℕ) (o : Option Found) → ((f : Found) → o ≡ some f → Bytes (f .field .content))
-    → fieldReadFrom (flatField (readOn n o)) ≡ readOn n o
+    → fieldReadFrom (flatField (readOn o n)) ≡ readOn o n
 read-back n none h = refl
 read-back n (some f) h = found-back n f (h f refl)
 

@@ -1,4 +1,5 @@
--- What is proved of the flat structs: nothing is lost in them. The proofs stand in proofs/Backs.antt.
+-- What is proved of the flat structs: nothing is lost in them, and the place and the size of a field are those of its data in the
+-- message. The proofs stand in proofs/Backs.antt.
 use Prim.Native.Nat.{ℕ, _+_, _≤_, _<_}
 use mathlib.Core.Path.{_≡_}
 use mathlib.Core.Bool.{Bool, true, false}

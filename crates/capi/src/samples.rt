@@ -27,8 +27,9 @@ fn flat_axes(number: u8, code: u8, place: usize, size: usize, a: Axes) -> FlatFi
     }
 }
 
-// Field k, counted from 0, of a message: number 0; the `size` bytes from `place` on are its data. 21: not one whole message; 22: wrong sums; 23: not a data message; 24:
-// the fields do not fill the payload; 25: a field 81 or 82 is not 12 bytes; 27: no such field. All else is 0 then.
+// Field k, counted from 0, of a message: number 0; the `size` bytes from `place` on are its data. 21: not one whole message; 22: wrong
+// sums; 23: not a data message; 24: the fields do not fill the payload; 25: a field 81 or 82 is not 12 bytes; 27: no such field. All
+// else is 0 then.
 #[no_mangle]
 pub extern "C" fn ketphiroj_read_field(message: &[u8], k: usize) -> FlatField
     ensures { λ r. ⌜ r ≡ flatField (fieldRead (now (message .entry)) k) ⌝ }

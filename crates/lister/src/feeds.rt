@@ -35,7 +35,7 @@ impl Progress {
         }
     }
 
-    // The same with all that is gathered written.
+    // The same with what is gathered written, or given up after a write that failed.
     pub(crate) fn flush(self, out: &[u8]) -> Self {
         let settings = self.settings;
         let before = self.gathered;

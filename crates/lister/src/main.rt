@@ -54,6 +54,7 @@ fn list(
         p = turn.progress;
         turns -= 1;
     }
+    // not reached: it counts as a listing that is not whole
     Turn {
         progress: p,
         more: true,

@@ -89,7 +89,7 @@ module _ (m : List ℕ) where
 -- ---- the answers
 
 pub read-made : (p : List ℕ) (at : ℕ) (s : Sample) → s ≡ sampleOf (fieldAt p at) (at + 6)
-    → record { number = 0; field = s; place = at + 6; size = getD p (at + 1) 0 } ≡ readOn 0 (some (record { field = fieldAt p at; place = at + 6 }))
+    → record { number = 0; field = s; place = at + 6; size = getD p (at + 1) 0 } ≡ readOn (some (record { field = fieldAt p at; place = at + 6 })) 0
 read-made p at s es = rw es
 
 module _ (m : List ℕ) (k : ℕ) (r : Place) (placed : Placed m k r) where
@@ -108,7 +108,7 @@ module _ (m : List ℕ) (k : ℕ) (r : Place) (placed : Placed m k r) where
   data-refused e = rw (← placed .reading, e)
 
   module _ (at : ℕ) (e : r ≡ At at) (p : List ℕ) (ep : p ≡ payloadOf m) where
-    pub read-at : (f : FieldRead) → f ≡ readOn 0 (some (record { field = fieldAt p at; place = at + 6 })) → f ≡ fieldRead m k
+    pub read-at : (f : FieldRead) → f ≡ readOn (some (record { field = fieldAt p at; place = at + 6 })) 0 → f ≡ fieldRead m k
     unfolding fieldRead
     read-at f ef = rw (← placed .reading, e, ef, ep)
 

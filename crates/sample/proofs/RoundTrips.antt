@@ -16,7 +16,7 @@ use Rattle.message.proofs.RoundTrips.{written-is-read as message-back, read-is-
 use Rattle.sample.specs.declared.axes.Axes.{Axes}
 use Rattle.sample.specs.declared.reader.Sample.the-variants.{Acceleration, Rate, Unknown}
 use Rattle.sample.specs.Axes.{axesOf, axesBytes}
-use Rattle.sample.specs.Reader.{sizeWrong, someSizeWrong, sampleOf, fieldFrom, Found, foundOn, readingOf, readOn, fieldRead, fieldData}
+use Rattle.sample.specs.Reader.{sizeWrong, someSizeWrong, sampleOf, fieldFrom, Found, foundOn, readingOf, fieldRead, fieldData}
 use Rattle.sample.specs.Writer.{dataPayload, dataMessage}
 use Rattle.sample.specs.Theorems.{DataBack, Kept32, Single, WrittenIsRead, ReadIsWritten}
 use Rattle.sample.proofs.AxesBytes.{Bytes, axes-again, bytes-again, take-bytes, drop-bytes, front-bytes, rest-bytes}
@@ -75,19 +75,19 @@ record Opened (m : List ℕ) : Type 0 where
   pub sized : someSizeWrong fields ≡ false
   pub reads : (k : ℕ) → readingOf m k ≡ foundOn (fieldFrom 4 fields k)
 
-opened : (m : List ℕ) → readingOf m 0 .number ≡ 0 → Opened m
+opened : (m : List ℕ) (x : Found) → readingOf m 0 .found ≡ some x → Opened m
 unfolding readingOf
-opened m e = go (wholeNumber m) refl (eqb (typeOf m) 0xA2) refl (fieldsOf (payloadOf m)) refl
+opened m x e = go (wholeNumber m) refl (eqb (typeOf m) 0xA2) refl (fieldsOf (payloadOf m)) refl
   where
     sizes : wholeNumber m ≡ 0 → eqb (typeOf m) 0xA2 ≡ true → (fs : List Field) → fieldsOf (payloadOf m) ≡ some fs → (b : Bool) → someSizeWrong fs ≡ b → Opened m
-    sizes w t fs f true s = let z : _≡_ {A = ℕ} 25 0 = rw (w, t, f, s) at e in absurd (omega arith)
+    sizes w t fs f true s = let n : none ≡ some x = rw (w, t, f, s) at e in let z : _≡_ {A = ℕ} 0 1 = cc in absurd (omega arith)
     sizes w t fs f false s =
         record { whole = w; kind = eqb-true (typeOf m) 0xA2 t; fields = fs; filled = f; sized = s; reads = λ k. rw (w, t, f, s) }
 
     go : (n : ℕ) → wholeNumber m ≡ n → (t : Bool) → eqb (typeOf m) 0xA2 ≡ t → (o : Option (List Field)) → fieldsOf (payloadOf m) ≡ o → Opened m
-    go (suc n) w t y o f = let z : _≡_ {A = ℕ} (suc n) 0 = rw w at e in absurd (omega arith)
-    go zero w false y o f = let z : _≡_ {A = ℕ} 23 0 = rw (w, y) at e in absurd (omega arith)
-    go zero w true y none f = let z : _≡_ {A = ℕ} 24 0 = rw (w, y, f) at e in absurd (omega arith)
+    go (suc n) w t y o f = let n : none ≡ some x = rw w at e in let z : _≡_ {A = ℕ} 0 1 = cc in absurd (omega arith)
+    go zero w false y o f = let n : none ≡ some x = rw (w, y) at e in let z : _≡_ {A = ℕ} 0 1 = cc in absurd (omega arith)
+    go zero w true y none f = let n : none ≡ some x = rw (w, y, f) at e in let z : _≡_ {A = ℕ} 0 1 = cc in absurd (omega arith)
     go zero w true y (some fs) f = sizes w y fs f (someSizeWrong fs) refl
 
 -- A field that reads as an acceleration, or as a rate, and its size.
@@ -136,17 +136,17 @@ module _ (a r : Axes) (f g : Field) (cf : f .code ≡ 0x81) (af : a ≡ axesOf (
       let eg : axesBytes r ≡ g .content = rw rg (bytes-again (g .content) lg (front-bytes (g .content) [] bg)) in
       rw (ef, eg, cf, cg, s .0, s .1, append-nil (g .content))
 
-read-number : (n : ℕ) (o : Option Found) → readOn n o .number ≡ n
-read-number n none = refl
-read-number n (some f) = refl
-
 -- There is a field 0, a field 1 and no field 2: two fields.
 pub read-is-written : ReadIsWritten
 unfolding fieldRead dataMessage
-read-is-written m a r bytes n0 e0 e1 e2 = go (o .fields) refl
+read-is-written m a r bytes e0 e1 e2 = go (o .fields) refl
   where
+    first : (x : Option Found) → readingOf m 0 .found ≡ x → Opened m
+    first none q = let s : Unknown 0 0 ≡ Acceleration a = rw q at e0 in let z : _≡_ {A = ℕ} 0 1 = cc in absurd (omega arith)
+    first (some x) q = opened m x q
+
     o : Opened m
-    o = opened m (sym (read-number (readingOf m 0 .number) (readingOf m 0 .found)) ∙ n0)
+    o = first (readingOf m 0 .found) refl
 
     go : (fs : List Field) → o .fields ≡ fs → messageOf 0xA2 (dataPayload a r) ≡ m
     go [] q = let s : Unknown 0 0 ≡ Acceleration a = rw (o .reads 0, q) at e0 in let z : _≡_ {A = ℕ} 0 1 = cc in absurd (omega arith)

@@ -82,12 +82,12 @@ unfoldable pub readingOf : List ℕ → ℕ → Reading
 readingOf m k = wholeOn (wholeNumber m) m k
 
 -- What the field is, and where its data stands in the message, whatever it is. A refusal gives zeros.
-abbrev pub readOn : ℕ → Option Found → FieldRead
-readOn n none = record { number = n; field = Unknown 0 0; place = 0; size = 0 }
-readOn n (some f) = record { number = n; field = sampleOf (f .field) (f .place); place = f .place; size = f .field .size }
+abbrev pub readOn : Option Found → ℕ → FieldRead
+readOn none n = record { number = n; field = Unknown 0 0; place = 0; size = 0 }
+readOn (some f) n = record { number = n; field = sampleOf (f .field) (f .place); place = f .place; size = f .field .size }
 
 unfoldable pub fieldRead : List ℕ → ℕ → FieldRead
-fieldRead m k = readOn (readingOf m k .number) (readingOf m k .found)
+fieldRead m k = readOn (readingOf m k .found) (readingOf m k .number)
 
 abbrev pub dataFound : Option Found → List ℕ
 dataFound none = []

@@ -85,5 +85,5 @@ WrittenIsRead = (a r : Axes) → Single a → Single r → Kept32 a → Kept32 r
 -- A message that reads as exactly these two fields is written back to the same bytes.
 abbrev pub ReadIsWritten : Type 0
 ReadIsWritten =
-    (m : List ℕ) (a r : Axes) → ((i : ℕ) → getD m i 0 < 256) → fieldRead m 0 .number ≡ 0 → fieldRead m 0 .field ≡ Acceleration a
-    → fieldRead m 1 .field ≡ Rate r → fieldRead m 2 .number ≡ 27 → dataMessage a r ≡ m
+    (m : List ℕ) (a r : Axes) → ((i : ℕ) → getD m i 0 < 256) → fieldRead m 0 .field ≡ Acceleration a → fieldRead m 1 .field ≡ Rate r
+    → fieldRead m 2 .number ≡ 27 → dataMessage a r ≡ m

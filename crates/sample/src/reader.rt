@@ -24,7 +24,7 @@ pub enum Sample {
     Unknown(u8, usize),
 }
 
-// What the data reader answers. Where it refuses, the field is an unknown one of zeros, and so are the place and the size.
+// What the data reader answers. Where it refuses, the field is an unknown one of zeros, and place and size are 0.
 pub struct FieldRead {
     // document 01's number
     pub number: u8,
@@ -162,7 +162,7 @@ fn size_wrong(payload: &[u8], at: usize) -> bool
 // What is answered of the field at `at`. Its data starts behind the message's four first bytes, and behind its own code and size.
 fn read_at(payload: &[u8], at: usize) -> FieldRead
     requires { ⌜ There (now payload) at ⌝ }
-    ensures { λ r. ⌜ r ≡ readOn 0 (some (record { field = fieldAt (now (payload .entry)) at; place = at + 6 })) ⌝ }
+    ensures { λ r. ⌜ r ≡ readOn (some (record { field = fieldAt (now (payload .entry)) at; place = at + 6 })) 0 ⌝ }
 {
     FieldRead {
         number: 0,

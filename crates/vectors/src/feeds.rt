@@ -98,7 +98,7 @@ fn say_step(step: FeedStep, room: &[u8], same: bool, before: Bench, out: Output)
         out: if same {
             told
         } else {
-            told.text(b", in place differs")
+            told.differs(b", in place differs")
         },
     }
 }
@@ -110,14 +110,14 @@ fn say_counted(step: Told, same: bool, fed: Fed, room: &[u8]) -> Told {
     let told = if same {
         out
     } else {
-        out.text(b", record differs")
+        out.differs(b", record differs")
     };
     Told {
         bench,
         out: if fed.error == first_error(fed.number, room) {
             told
         } else {
-            told.text(b", error differs")
+            told.differs(b", error differs")
         },
     }
 }

@@ -9,7 +9,7 @@ pub struct Output {
     block: [u8; 512],
     used: usize,
     // whether all that was to be written until now has been
-    written: bool,
+    pub written: bool,
     // how many lines were not as they should be
     pub faults: u64,
 }
@@ -87,6 +87,11 @@ impl Output {
 
     pub(crate) fn unknown_line(self) -> Self {
         self.fault().text(b"unknown line")
+    }
+
+    // Two calls that must agree do not.
+    pub(crate) fn differs(self, how: &[u8]) -> Self {
+        self.fault().text(how)
     }
 
     fn fault(self) -> Self {

@@ -92,7 +92,7 @@ fn say_split(held: &[u8], chunk: &[u8], out: Output) -> Output {
     if agree(s, held, chunk) {
         return told.text(b", same");
     }
-    told.text(b", differ")
+    told.differs(b", differ")
 }
 
 fn cut(args: &[u8], out: Output) -> Output {
@@ -110,7 +110,7 @@ fn say_cuts(s: &[u8], out: Output) -> Output {
     let mut k = 0;
     while k <= last {
         if !agree_at(s, k) {
-            return told.text(b", differ at ").decimal(k as u64);
+            return told.differs(b", differ at ").decimal(k as u64);
         }
         k += 1;
     }

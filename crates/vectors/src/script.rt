@@ -1,4 +1,4 @@
-// The script, read block by block and run line by line.
+// The script, read into a block and run line by line.
 ghost use Prim.Native.Nat.{_+_, _≤_};
 ghost use lib.ListN.{length};
 use crate::bench::Bench;
@@ -7,8 +7,8 @@ use crate::boards;
 use crate::output::Output;
 use crate::text;
 
-// A loop that reads has to end: more blocks than a script has.
-const BLOCKS: u64 = 0x1_0000_0000;
+// A loop that reads has to end: more reads than a script takes.
+const READS: u64 = 0x1_0000_0000;
 
 // `block` has to have room for the longest line and its end.
 pub(crate) fn run(block: &mut [u8]) {
@@ -16,8 +16,8 @@ pub(crate) fn run(block: &mut [u8]) {
     let mut out = Output::new();
     let mut kept = 0;
     let mut turn = 0;
-    while turn < BLOCKS {
-        let read = read_behind(block, kept);
+    while turn < READS {
+        let read = read_behind(block, kept, out.written);
         let n = read.end;
         if n == kept {
             finish(text::prefix(block, kept), read.failed, bench, out);
@@ -43,11 +43,17 @@ pub struct Read {
     failed: bool,
 }
 
-// Reads on behind the first `kept` bytes.
-fn read_behind(block: &mut [u8], kept: usize) -> Read
+// Reads on behind the first `kept` bytes. Where a write has failed, the script ends here.
+fn read_behind(block: &mut [u8], kept: usize, written: bool) -> Read
     requires { ⌜ kept ≤ length (now block) ⌝ }
     ensures { λ r. ⌜ (kept ≤ r .end) × (r .end ≤ length (now (block .exit))) ⌝ }
 {
+    if !written {
+        return Read {
+            end: kept,
+            failed: false,
+        };
+    }
     let read = read_once(&mut block[kept..]);
     Read {
         end: kept + read.end,

@@ -107,7 +107,7 @@ fn say_sizes(s: &[u8], whole: Run, out: Output) -> Output {
     while k < 8 {
         let size = piece_size(k);
         if !size_agrees(s, whole, size, piece_size((k + 3) % 8)) {
-            return out.text(b"; differs at size ").decimal(size as u64);
+            return out.differs(b"; differs at size ").decimal(size as u64);
         }
         k += 1;
     }

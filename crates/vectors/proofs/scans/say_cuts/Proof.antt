@@ -25,11 +25,11 @@ loop-holds c = search needs
 agree-at-requires : tie.Need-agree-at-requires Inv-loop μ-loop
 agree-at-requires c κs = search needs
 
-slice-aggregate-text : tie.Need-slice-aggregate-text Inv-loop μ-loop
-slice-aggregate-text c = search needs
+slice-aggregate-differs : tie.Need-slice-aggregate-differs Inv-loop μ-loop
+slice-aggregate-differs c = search needs
 
-text-requires : tie.Need-text-requires Inv-loop μ-loop
-text-requires c κs = search needs
+differs-requires : tie.Need-differs-requires Inv-loop μ-loop
+differs-requires c κs = search needs
 
 decimal-requires : tie.Need-decimal-requires Inv-loop μ-loop
 decimal-requires c κs = search needs
@@ -46,20 +46,20 @@ loop-less c = search needs
 loop-again : tie.Need-loop-again Inv-loop μ-loop
 loop-again c = search needs
 
+slice-aggregate-text : tie.Need-slice-aggregate-text Inv-loop μ-loop
+slice-aggregate-text c = search needs
+
+text-requires : tie.Need-text-requires Inv-loop μ-loop
+text-requires c κs = search needs
+
+decimal-requires-2 : tie.Need-decimal-requires-2 Inv-loop μ-loop
+decimal-requires-2 c κs = search needs
+
 slice-aggregate-text-2 : tie.Need-slice-aggregate-text-2 Inv-loop μ-loop
 slice-aggregate-text-2 c = search needs
 
 text-requires-2 : tie.Need-text-requires-2 Inv-loop μ-loop
 text-requires-2 c κs = search needs
-
-decimal-requires-2 : tie.Need-decimal-requires-2 Inv-loop μ-loop
-decimal-requires-2 c κs = search needs
-
-slice-aggregate-text-3 : tie.Need-slice-aggregate-text-3 Inv-loop μ-loop
-slice-aggregate-text-3 c = search needs
-
-text-requires-3 : tie.Need-text-requires-3 Inv-loop μ-loop
-text-requires-3 c κs = search needs
 
 returns-2 : tie.Need-returns-2 Inv-loop μ-loop
 returns-2 c = search needs
@@ -75,16 +75,16 @@ say-cuts-spec =
     last-cut-requires
     loop-holds
     agree-at-requires
-    slice-aggregate-text
-    text-requires
+    slice-aggregate-differs
+    differs-requires
     decimal-requires
     returns
     add-k
     loop-less
     loop-again
+    slice-aggregate-text
+    text-requires
+    decimal-requires-2
     slice-aggregate-text-2
     text-requires-2
-    decimal-requires-2
-    slice-aggregate-text-3
-    text-requires-3
     returns-2)

@@ -1,4 +1,4 @@
--- What is kept is within the block, and the blocks are counted.
+-- What is kept is within the block, and the reads are counted.
 use Prim.Native.Nat.{_≤_, _-_}
 use mathlib.Core.Path.{_≡_}
 use lib.ListN.{length}
