@@ -11,8 +11,8 @@
  *     ketphiroj_tally; and none is ever NULL, not even with length 0;
  *   - a buffer that a call writes overlaps no other buffer of the same call;
  *   - a bool is true or false.
- * The archive is for x86-64, with a size_t of 64 bits and the System V calling convention. A build for a microcontroller is not
- * offered by the kit today.
+ * The archive is for x86-64, with a size_t of 64 bits and the System V calling convention, and calls memcpy and memset. A build for a
+ * microcontroller is not offered by the kit today.
  *
  * No call keeps a pointer, allocates, or has a state of its own. What is refused writes nothing to any buffer; only a start in
  * place on a page that it refuses (19, 20) clears the two ports.
@@ -311,7 +311,8 @@ ketphiroj_stepped ketphiroj_call_in_place(
  *     make no further feed or silence, but start again on the stored page;
  *   - lend a copy of the page in memory that a power cut clears, and not the stored page itself: while a feed or a silence writes the
  *     page, it is blank for a moment, and a blank page has no number;
- *   - store it whole or not at all: a page of which only a part was stored may keep a smaller number, or the next start refuses it;
+ *   - store it whole or not at all. A page of which only a part was stored is not always refused: the next start may take it for a
+ *     blank one, which accepts every number again, or for one with another number, smaller or larger. A page has no sums;
  *   - start on the page that was stored last, never on an older copy, and let nobody else write or erase it. Where a start answers 20,
  *     the number is lost: a blank page in its place would let every number be accepted again. Whether to erase it so is for the
  *     firmware, or a person, to decide; the library leaves the page as it is.

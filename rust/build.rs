@@ -77,7 +77,21 @@ fn warn_of_newer(root: &Path, archive: &Path) {
     }
 }
 
+/// The archive is compiled for one machine: where the program is for another, a linker would say it in words of its own.
+fn is_for_target() -> bool {
+    let target = env::var("CARGO_CFG_TARGET_ARCH").unwrap_or_default();
+    if target != "x86_64" {
+        println!(
+            "cargo::error=the archive is for x86-64 alone, and this build is for {target}: see README.md, 'From C'"
+        );
+    }
+    target == "x86_64"
+}
+
 fn main() {
+    if !is_for_target() {
+        return;
+    }
     let root = root();
     let folder = folder(&root);
     let archive = folder.join("libcapi.a");

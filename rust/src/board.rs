@@ -131,6 +131,7 @@ impl Profile {
 /// held count, of either port, is over 260 or a value is none that this board works with. Any held bytes are accepted,
 /// any bytes past them, and any totals.
 #[derive(Clone, Copy, Debug, PartialEq, Eq)]
+#[must_use = "a board that was started is to be fed"]
 #[repr(C)]
 pub struct Board {
     /// Port 0.

@@ -83,7 +83,7 @@ pub fn write_message(kind: u8, payload: &[u8], room: &mut [u8]) -> Result<usize,
 }
 
 /// Writes the command of this code and function to the room's front, and gives its length: function 1 with the value,
-/// the functions 2 to 5 without, Ping without both. What is not written is not looked at.
+/// the functions 2 to 5 without, Ping without both. What is not written is not looked at. It is at most 13 bytes.
 ///
 /// The writer sees neither the board's page nor its profile: functions 1, 3, 4 and 5 may still be answered with
 /// [`ReplyError::Number`](crate::ReplyError::Number) or [`NotAllowed`](crate::ReplyError::NotAllowed), and function 4 with
@@ -113,8 +113,8 @@ pub fn write_command(code: u8, function: u8, value: u32, room: &mut [u8]) -> Res
 /// Writes the numbered command of this code and function to the room's front, and gives its length: a message of type
 /// [`NUMBERED`] with the number, then the type and the field that [`write_command`] writes. A board accepts the number
 /// where it is larger than the one that its page keeps, or where the page keeps none, and then keeps it; whatever comes
-/// of the command, the number cannot be used again. Port 1 of a read-only board accepts none. For several fields see
-/// [`append_field`].
+/// of the command, the number cannot be used again. Port 1 of a read-only board accepts none. It is at most 18 bytes. For
+/// several fields see [`append_field`].
 ///
 /// # Errors
 ///

@@ -81,7 +81,7 @@ impl ReplyError {
             ReplyError::Checksum => "sums wrong",
             ReplyError::MessageType => "no such type",
             ReplyError::MessageCode => "no such code, or no field",
-            ReplyError::Parameter => "wrong size, function or value",
+            ReplyError::Parameter => "wrong size, function or value, or fields that do not fit",
             ReplyError::Number => "number not fresh, or missing",
             ReplyError::Unsupported => "not on this board",
             ReplyError::NotAllowed => "not allowed on this port",

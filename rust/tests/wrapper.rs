@@ -1137,7 +1137,7 @@ fn reply_errors_have_their_numbers() {
         (ReplyError::Checksum, "sums wrong (1)"),
         (ReplyError::MessageType, "no such type (2)"),
         (ReplyError::MessageCode, "no such code, or no field (3)"),
-        (ReplyError::Parameter, "wrong size, function or value (4)"),
+        (ReplyError::Parameter, "wrong size, function or value, or fields that do not fit (4)"),
         (ReplyError::Number, "number not fresh, or missing (5)"),
         (ReplyError::Unsupported, "not on this board (6)"),
         (ReplyError::NotAllowed, "not allowed on this port (7)"),
