@@ -117,7 +117,7 @@ fn keep_after(bytes: &mut [u8], held: usize, chunk: &[u8], k: usize, n: usize, g
 // What a step of a port answers. The port's bytes stay in its array. The widest fields come first: with a byte in front of
 // them, a copy of the answer is made of parts that straddle the fields, and is slow (docs/DECISIONS.md).
 #[repr(C)]
-#[derive(Drop)]
+#[derive(Clone, Copy)]
 pub struct Stepped {
     pub taken: usize,
     pub skipped: usize,

@@ -55,7 +55,7 @@ pub fn start(readonly: bool, page: &[u8]) -> Started
 
 // What a start in place answers. Both ports hold nothing; their bytes stay in their arrays. Their totals are zero.
 #[repr(C)]
-#[derive(Drop)]
+#[derive(Clone, Copy)]
 pub struct StartedInPlace {
     pub settings: Settings,
     // document 01's number

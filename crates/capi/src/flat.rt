@@ -7,7 +7,7 @@ use page::Stored;
 
 // A row of a reply as read.
 #[repr(C)]
-#[derive(Drop)]
+#[derive(Clone, Copy)]
 pub struct FlatReply {
     // document 01's number
     pub number: u8,
@@ -23,7 +23,7 @@ pub struct FlatReply {
 // A field of a data message as read. C has no part of a message to be handed out: it has the place and the size of the data, of
 // every field, and takes the part itself (`FlatLocated`).
 #[repr(C)]
-#[derive(Drop)]
+#[derive(Clone, Copy)]
 pub struct FlatField {
     // document 01's number
     pub number: u8,
@@ -40,7 +40,7 @@ pub struct FlatField {
 
 // The values that a page keeps. Beside a `has_` that is false the value is not looked at, and is 0 where it is read.
 #[repr(C)]
-#[derive(Drop)]
+#[derive(Clone, Copy)]
 pub struct FlatValues {
     pub has_baud: bool,
     pub baud: u32,
@@ -55,7 +55,7 @@ pub struct FlatValues {
 
 // What reading a page answers.
 #[repr(C)]
-#[derive(Drop)]
+#[derive(Clone, Copy)]
 pub struct FlatPage {
     pub values: FlatValues,
     // document 01's number

@@ -3,6 +3,7 @@
 // by a number of document 01, and the record takes any. What a
 // caller must see to stands at the top of include/ketphiroj.h: pointers that hold, and slices that do not overlap where one of
 // them is written.
+#![tactic(auto)]
 mod counting;
 mod feeding;
 mod flat;

@@ -9,7 +9,7 @@ use page::{Coded, Setting, Stored, code_of, readable, setting_of, value_size};
 use word::number_of;
 
 // What a row of a reply says. Zeros and no value where it is refused.
-#[derive(Drop)]
+#[derive(Clone, Copy)]
 pub struct Reply {
     // document 01's number: 0, or why the reader refused
     pub number: u8,

@@ -22,7 +22,7 @@ use message::byte_over;
 use page::Setting;
 
 // What a message leaves, beside the reply and the page.
-#[derive(Drop)]
+#[derive(Clone, Copy)]
 pub struct Answer {
     // the mark of a save: one was accepted, or a fresh number
     pub saved: bool,

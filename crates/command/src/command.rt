@@ -7,7 +7,7 @@ use message::byte_over;
 use page::{Coded, Setting};
 
 // A field, with the type of its message. What its data do not have is 0.
-#[derive(Drop)]
+#[derive(Clone, Copy)]
 pub struct Command {
     // the type
     pub kind: u8,
@@ -20,7 +20,7 @@ pub struct Command {
 }
 
 // What a command is about.
-#[derive(Drop)]
+#[derive(Clone, Copy)]
 pub enum Subject {
     Ping,
     Setting(Setting),

@@ -50,7 +50,7 @@ fn number_error(rights: Rights, held: &[u8], chunk: &[u8], to: usize, page: &[u8
 }
 
 // What a message comes to before any field: its error, or the command in it.
-#[derive(Drop)]
+#[derive(Clone, Copy)]
 pub struct Opened {
     // 0 where there is a command
     pub error: u8,

@@ -9,7 +9,7 @@ use crate::settings::Settings;
 use page::Setting;
 
 // How far the answer to a message has come.
-#[derive(Drop)]
+#[derive(Clone, Copy)]
 pub struct Progress {
     // where the next row goes in the room
     pub end: usize,

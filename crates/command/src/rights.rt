@@ -1,6 +1,6 @@
 // What a message may do on the port that it came on.
 
-#[derive(Drop)]
+#[derive(Clone, Copy)]
 pub struct Rights {
     // functions 1, 3, 4 and 5 need a number once the page keeps one
     pub guarded: bool,

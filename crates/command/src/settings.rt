@@ -8,7 +8,7 @@ ghost use Rattle.command.specs.Effects.{working_value, with_working, Fits, setti
 use page::{Entry, Setting};
 
 #[repr(C)]
-#[derive(Drop)]
+#[derive(Clone, Copy)]
 pub struct Settings {
     pub baud: u32,
     // the accelerometer's range

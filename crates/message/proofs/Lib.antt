@@ -6,7 +6,7 @@ pub mod Reports
 pub mod RoundTrips
 pub mod Skipped
 pub mod Strays
-pub mod Sums
+pub mod SumLaws
 pub mod Wholes
 pub mod Windows
 pub mod Writes

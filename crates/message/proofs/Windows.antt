@@ -14,7 +14,7 @@ use Rattle.message.specs.Header.{opening_of}
 use Rattle.message.specs.declared.fletcher.Sums.{Sums}
 use Rattle.message.specs.Fletcher.{no_sums, sums_from, sums}
 use Rattle.message.proofs.Fronts.{complete_within}
-use Rattle.message.proofs.Sums.{sums-append}
+use Rattle.message.proofs.SumLaws.{sums-append}
 
 module _ (held chunk : List ℕ) where
   pub byte_held : (i : ℕ) → i < length held → get_or held i 0 ≡ get_or (held ++ chunk) i 0

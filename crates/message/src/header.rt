@@ -4,7 +4,7 @@ ghost use Rattle.std.specs.Prelude.{◌≡◌, ◌+◌, ◌%◌, ◌++◌, slice
 ghost use Rattle.message.specs.Header.{opening_of};
 
 // What the first bytes of what is unread tell of a message there.
-#[derive(Drop)]
+#[derive(Clone, Copy)]
 pub(crate) enum Opening {
     // None opens there.
     NoMessage,

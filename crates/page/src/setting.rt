@@ -3,7 +3,7 @@ ghost use Rattle.std.specs.Prelude.{◌≡◌, ◌&&◌, eqb, leb};
 ghost use Rattle.page.specs.Settings.{code_of, setting_of, some_of, baud_rates, usable, storable, readable, value_size, factory_value};
 ghost use Rattle.page.specs.Page.{with_value, with_number};
 
-#[derive(Drop)]
+#[derive(Clone, Copy)]
 pub enum Setting {
     Baud,
     // the accelerometer's range
@@ -13,21 +13,21 @@ pub enum Setting {
 }
 
 // What a code stands for.
-#[derive(Drop)]
+#[derive(Clone, Copy)]
 pub enum Coded {
     Setting(Setting),
     Nothing,
 }
 
 // A value on the page, if it has one.
-#[derive(Drop)]
+#[derive(Clone, Copy)]
 pub enum Stored {
     Absent,
     Value(u32),
 }
 
 // The values that a page keeps.
-#[derive(Drop)]
+#[derive(Clone, Copy)]
 pub struct Values {
     pub baud: Stored,
     pub accelerometer: Stored,

@@ -10,7 +10,7 @@ use word::number_of;
 
 // Three IEEE 754 single floats. The kit's f32 has a single NaN, so the pattern of an axis that is a NaN stands beside it;
 // beside any other it is 0.
-#[derive(Drop)]
+#[derive(Clone, Copy)]
 pub struct Axes {
     pub x: f32,
     pub y: f32,

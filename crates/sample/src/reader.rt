@@ -11,7 +11,7 @@ use crate::axes::{Axes, axes_of};
 use message::check_message;
 
 // What a field of a data message is.
-#[derive(Drop)]
+#[derive(Clone, Copy)]
 pub enum Sample {
     // in g
     Acceleration(Axes),
@@ -22,7 +22,7 @@ pub enum Sample {
 }
 
 // What the data reader answers. Where it refuses, the field is an unknown one of zeros, and place and size are 0.
-#[derive(Drop)]
+#[derive(Clone, Copy)]
 pub struct FieldRead {
     // document 01's number
     pub number: u8,
@@ -33,7 +33,7 @@ pub struct FieldRead {
 }
 
 // Where a field of a message starts in its payload, or the number that refuses it.
-#[derive(Drop)]
+#[derive(Clone, Copy)]
 enum Place {
     At(usize),
     Refused(u8),

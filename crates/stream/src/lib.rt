@@ -1,7 +1,8 @@
 // The answers of a scan, shared by the theory in specs/ and by the code of every framing.
+#![tactic(auto)]
 
 // What stands at the front of the unread bytes.
-#[derive(Drop)]
+#[derive(Clone, Copy)]
 pub enum Verdict {
     // One byte is skipped.
     Skip,
@@ -12,7 +13,7 @@ pub enum Verdict {
 }
 
 // Where a seek through the unread bytes ends.
-#[derive(Drop)]
+#[derive(Clone, Copy)]
 pub enum Sought {
     // No message: so many bytes are skipped, and what follows them is undecided or nothing.
     Starved(usize),

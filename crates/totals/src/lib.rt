@@ -1,10 +1,11 @@
 // The totals of a port since the start: in the board, and in a driver's tally record.
+#![tactic(auto)]
 ghost use Rattle.std.specs.Prelude.{◌≡◌, ◌-◌};
 ghost use Rattle.totals.specs.Tally.{plus_up_to, zero_tally, good_bytes, counted_of};
 
 // Each total stops at its largest figure.
 #[repr(C)]
-#[derive(Drop)]
+#[derive(Clone, Copy)]
 pub struct Tally {
     // bytes taken from the chunks, bytes that the scan skipped, and bytes of good messages
     pub taken: u64,
