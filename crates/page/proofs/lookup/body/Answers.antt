@@ -1,0 +1,13 @@
+-- `page::lookup::body` meets its contract: by which page has the entry.
+use borrow.Author.Rules.{rules}
+use Rattle.page.proofs.Lookups.{body_saved, body_factory, body_nowhere}
+use Rattle.page.proofs.lookup.body.Goals as goal
+
+pub returns-in-At : goal.returns-in-At
+returns-in-At c = search (body_saved, rules)
+
+pub returns-in-At-f : goal.returns-in-At-f
+returns-in-At-f c = search (body_factory, rules)
+
+pub returns : goal.returns
+returns c = search (body_nowhere, rules)
