@@ -23,21 +23,18 @@ use Rattle.history.proofs.Sums.{held_few, port_sums}
 use Rattle.message.specs.Front.{front, most_undecided}
 use Rattle.message.proofs.Framed.{cutting_harmless}
 use Rattle.page.specs.declared.setting.Values.{Values}
-use Rattle.page.specs.Page.{all_storable, writing, page_size}
+use Rattle.page.specs.Page.{all_storable, writing}
 use Rattle.page.specs.Lookup.{values_in}
-use Rattle.page.specs.Sound.{sound, page_number}
-use Rattle.page.proofs.Pages.{sound_is_writing, writing-sound, sound_passes}
+use Rattle.page.proofs.Pages.{sound_is_writing}
 use Rattle.command.specs.declared.settings.Settings.{Settings}
-use Rattle.command.specs.Answer.{settings_from, reply_room}
-use Rattle.command.proofs.Keeps.{starts_usable}
-use Rattle.command.specs.Effects.{settings_usable}
+use Rattle.command.specs.Answer.{reply_room}
 use Rattle.board.specs.Profile.{Profile}
 use Rattle.board.specs.declared.board.Board.{Board}
 use Rattle.board.specs.declared.board.Started.{Started}
 use Rattle.board.specs.Port.{port_room, held_bytes, port_holding, port_of}
 use Rattle.board.specs.Start.{fresh_board, start_of}
 use Rattle.board.specs.Feed.{Feeding, call_of}
-use Rattle.board.specs.Handling.{Reckoned, Kept, loaded_of, settings_of, reckon_message, handle_message, kept_tests, StoredAs}
+use Rattle.board.specs.Handling.{Reckoned, Kept, settings_of, reckon_message, handle_message, kept_tests, StoredAs}
 use Rattle.board.specs.Runs.{Call, Calls, calls_from, calls_on, call_from, told_of, reckoned_on, Told, AllTold}
 use Rattle.board.specs.Theorems.{AsReckoned, Demand3, FeedsDemand3, OneMore, answers_of, AnyListsAddUp, DrainedOn, DrainedAlike, history_on, held_on, PortAddsUp, SumLaw, ReportsScanned}
 use Rattle.board.proofs.Follows.{call_profile, start_profile, page_sound}

@@ -3,7 +3,7 @@
 use mathlib.Core.Bool.{true}
 use mathlib.Core.List.{List, [], ◌∷◌}
 use mathlib.Core.Path.{◌≡◌, refl, sym, ap, subst, ◌∙◌}
-use Prim.Native.Nat.{ℕ, zero, suc, ◌≤◌}
+use Prim.Native.Nat.{ℕ, ◌≤◌}
 use lib.ListN.{length}
 use Rattle.history.specs.Calls.{Answer, Run, State}
 use Rattle.history.specs.Calls.{Call as CallOf, port_of as kept_port}
@@ -21,11 +21,10 @@ use Rattle.page.specs.Lookup.{values_in}
 use Rattle.page.specs.Sound.{page_number}
 use Rattle.page.proofs.Pages.{sound_is_writing}
 use Rattle.command.specs.Answer.{reply_room}
-use Rattle.board.specs.Profile.{Profile, full}
+use Rattle.board.specs.Profile.{Profile}
 use Rattle.board.specs.declared.board.Board.{Board}
-use Rattle.board.specs.declared.board.Started.{Started}
 use Rattle.board.specs.Port.{port_room}
-use Rattle.board.specs.Start.{fresh_board, start_on, start_of}
+use Rattle.board.specs.Start.{start_of}
 use Rattle.board.specs.Feed.{Feeding, call_of}
 use Rattle.board.specs.Handling.{Reckoned, Kept, settings_of, reckon_message, handle_message, kept_tests, StoredAs}
 use Rattle.board.specs.Runs.{Call, Calls, call_from, AllTold}

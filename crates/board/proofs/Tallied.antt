@@ -2,7 +2,7 @@
 use mathlib.Core.Bool.{Bool, true, false}
 use mathlib.Core.List.{List, [], ◌∷◌}
 use mathlib.Core.Path.{◌≡◌, refl, sym, ap, subst, ◌∙◌}
-use Prim.Native.Nat.{ℕ, zero, suc, ◌+◌, ◌≤◌, ◌<◌, min}
+use Prim.Native.Nat.{ℕ, zero, suc, ◌+◌, ◌≤◌, ◌<◌}
 use native.Mathlib.Omega.{arith}
 use borrow.Author.Tests.{eq-eqb, eqb-true}
 use lib.Dec.{eqb}
@@ -16,10 +16,10 @@ use Rattle.history.specs.Restarts.{Act, call, restart, history_from, started_on,
 use Rattle.history.proofs.Driven.{unless_early_lem, Related}
 use Rattle.history.proofs.Steps.{step_related}
 use Rattle.history.proofs.Tracks.{Tracks, fresh_tracks}
-use Rattle.message.specs.Front.{front, most_undecided}
+use Rattle.message.specs.Front.{front}
 use Rattle.message.proofs.Framed.{cutting_harmless}
 use Rattle.totals.specs.declared.Tally.{Tally}
-use Rattle.totals.specs.Tally.{largest, stopped, zero_tally, good_bytes, counted_of}
+use Rattle.totals.specs.Tally.{largest, stopped, zero_tally, good_bytes}
 use Rattle.totals.specs.Counts.{Counts, no_counts, times, totals_of, counts_after, counts_in}
 use Rattle.totals.proofs.Counted.{times_other, counted_is}
 use Rattle.totals.proofs.Reckoned.{counted_if, step_counts}
@@ -30,7 +30,7 @@ use Rattle.board.specs.Profile.{Profile, rights_of}
 use Rattle.board.specs.declared.board.Board.{Board}
 use Rattle.board.specs.declared.port.Port.{Port}
 use Rattle.board.specs.Port.{held_bytes, port_holding, port_of, tally_at}
-use Rattle.board.specs.Start.{start_on, start_of}
+use Rattle.board.specs.Start.{start_of}
 use Rattle.board.specs.Feed.{Feeding, PortStep, feed_number, refused_feeding, step_by, feed_on, accept_on, call_of}
 use Rattle.board.specs.Handling.{Reckoned, Kept, reckon_message, handle_message, kept_tests, StoredAs}
 use Rattle.board.specs.Runs.{Call, call_from, Told, reply_in}
@@ -38,7 +38,7 @@ use Rattle.board.specs.AnyBoard.{good_length}
 use Rattle.board.specs.Histories.{feeding_of, acts_from}
 use Rattle.board.specs.Restarts.{told_acts, start_anew}
 use Rattle.board.specs.Totals.{counts_by, counts_from, CountsHistories, record_by, record_from, RecordEquals, RecordFromStart}
-use Rattle.board.proofs.Begins.{start_fresh, start_padded, start_kept, start_state, starts_alike}
+use Rattle.board.proofs.Begins.{start_fresh, start_padded, start_state, starts_alike}
 use Rattle.board.proofs.Feedings.{passed, by_number, calls_keep}
 use Rattle.board.proofs.Follows.{start_profile}
 use Rattle.board.proofs.Handles.{handles}

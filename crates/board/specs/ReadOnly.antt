@@ -1,6 +1,6 @@
 -- Request 12: feeds and restarts of a read-only board as a single table, and what port 0 sees of a list, with a single statement about what
 -- the rules give for them. (Messages one by one: `ReadOnlyLines` in crate command.)
-use Rattle.std.specs.Prelude.{true, false, List, [], ◌∷◌, ◌++◌, ◌≡◌, ℕ, replicate}
+use Rattle.std.specs.Prelude.{true, List, [], ◌∷◌, ◌++◌, ◌≡◌, ℕ, replicate}
 use Rattle.history.specs.Calls.{fed, silent}
 use Rattle.history.specs.Interference.{port_zero_calls}
 use Rattle.history.specs.Restarts.{restart}

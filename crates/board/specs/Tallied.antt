@@ -1,7 +1,7 @@
 -- Request 13: calls and restarts as a single table, with the totals of both ports behind each line, and a single statement about what the
 -- rules give for it.
 use Rattle.std.specs.Prelude.{List, [], ◌∷◌, ◌++◌, ◌≡◌, ℕ, drop, replicate, take}
-use Rattle.history.specs.Calls.{Input, fed, silent}
+use Rattle.history.specs.Calls.{fed, silent}
 use Rattle.history.specs.Restarts.{Act, call, restart}
 use Rattle.message.specs.Message.{message_of}
 use Rattle.page.specs.Page.{blank_page}

@@ -1,6 +1,6 @@
 -- Request 13: the totals in the board, over histories of calls (feeds, and silences drained or not) and restarts; what they count; and a
 -- driver's own record. Each statement names its proof, a term of that type in proofs/Tallied. (Demand 3 covers the totals, too: `AsReckoned`.)
-use Rattle.std.specs.Prelude.{Bool, true, false, List, [], ◌∷◌, ◌≡◌, ℕ, zero, suc, ◌+◌, ◌≤◌, ◌<◌, eqb, length}
+use Rattle.std.specs.Prelude.{Bool, true, false, List, [], ◌∷◌, ◌≡◌, ℕ, ◌+◌, ◌≤◌, ◌<◌, eqb, length}
 use Rattle.history.specs.Program.{sought_by}
 use Rattle.history.specs.Restarts.{Act, call, restart}
 use Rattle.message.specs.Front.{front}

@@ -1,6 +1,7 @@
 // The board: two ports that hold unread bytes, with their totals, the working settings, the profile, starting, feeding and silences.
 // The definitions that the contracts cite stand in specs/.
 #![tactic(auto)]
+
 mod board;
 mod calls;
 mod counting;

@@ -4,6 +4,7 @@
 // caller must see to stands at the top of include/ketphiroj.h: pointers that hold, and slices that do not overlap where one of
 // them is written.
 #![tactic(auto)]
+
 mod counting;
 mod feeding;
 mod flat;

@@ -1,5 +1,6 @@
 // The controller's side: writing commands and reading replies. The definitions that the contracts cite stand in specs/.
 #![tactic(auto)]
+
 mod reader;
 mod writer;
 

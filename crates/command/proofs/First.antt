@@ -10,12 +10,11 @@ use Rattle.message.specs.Fields.{Field, fields_of}
 use Rattle.message.specs.Message.{message_of}
 use Rattle.message.specs.Whole.{refuse}
 use Rattle.command.specs.declared.rights.Rights.{Rights}
-use Rattle.command.specs.declared.command.Command.{Command}
 use Rattle.command.specs.Rights.{all_rights}
 use Rattle.command.specs.Command.{command_of, commands_of}
 use Rattle.command.specs.Errors.{field_error, fields_refused, is_kind, command_error}
 use Rattle.command.specs.Numbers.{is_fresh, numbered_kind, number_of, inner_kind, inner_payload, number_error}
-use Rattle.command.specs.Outcome.{Access, State, Outcome, Received, reply_of, reply_row, error_in, denial_of, field_outcome, fields_outcome}
+use Rattle.command.specs.Outcome.{Access, State, Outcome, reply_of, reply_row, error_in, denial_of, field_outcome, fields_outcome}
 use Rattle.command.specs.Handle.{fields_in, spent, refused_outcome, marked, command_on, command_outcome, numbered_on, numbered_outcome, message_outcome}
 use Rattle.command.specs.First.{FirstRow, FirstRows}
 use Rattle.command.proofs.Accepts.{denial_most, error_most}

@@ -1,5 +1,5 @@
 -- Requests 02, 03 and 12: what a message puts on the board's page. "The page now changes on accepted saves and on fresh numbers."
-use Rattle.std.specs.Prelude.{Bool, true, false, not, cond, List, [], ◌∷◌, ◌++◌, ℕ, zero, suc, ◌+◌, eqb}
+use Rattle.std.specs.Prelude.{Bool, true, false, not, cond, List, [], ◌∷◌, ◌++◌, ℕ, zero, suc, eqb}
 use Rattle.std.proofs.Math.Option.{Option, none, some}
 use Rattle.page.specs.declared.setting.Setting.{Setting}
 use Rattle.page.specs.Settings.{Key, value_of, last_number}

@@ -1,6 +1,7 @@
 // One message handled: its errors and those of its fields, what they do to the settings and the page, and the reply. The
 // definitions that the contracts cite stand in specs/.
 #![tactic(auto)]
+
 mod answer;
 mod command;
 mod errors;

@@ -1,6 +1,7 @@
 // The text of a listing: the heading, a line for each row of a reply, the counts, and the totals. The definitions that the contracts cite stand
 // in specs/.
 #![tactic(auto)]
+
 mod put;
 mod rows;
 mod writers;

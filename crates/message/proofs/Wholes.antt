@@ -1,5 +1,5 @@
 -- One whole message, test by test.
-use Rattle.std.proofs.Common.{◌≡◌, ℕ, ◌+◌, ◌-◌, ◌%◌, ◌<◌, ◌≤◌, Bool, true, false, not, List, length, get_or, take, drop, sym, ◌∙◌, le-ltb, lt-ltb, eq-eqb, ne_eqb}
+use Rattle.std.proofs.Common.{◌≡◌, ℕ, ◌+◌, ◌%◌, ◌<◌, ◌≤◌, Bool, true, false, not, List, length, get_or, take, drop, sym, ◌∙◌, le-ltb, lt-ltb, eq-eqb, ne_eqb}
 use lib.Seq.{take-length}
 use Rattle.message.specs.Message.{sums_right}
 use Rattle.message.specs.Whole.{refuse, whole_number}

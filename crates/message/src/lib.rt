@@ -1,6 +1,7 @@
 // An MS CIP message: its sums, what stands at the front of unread bytes, the seek for the next message, the test of one
 // whole message, the plain writer, and the writer of plain bytes. The definitions that the contracts cite stand in specs/.
 #![tactic(auto)]
+
 mod bytes;
 mod fletcher;
 mod front;

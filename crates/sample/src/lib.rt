@@ -1,6 +1,7 @@
 // The data message 0xA2: three axes of an acceleration and of a rate, read, handed out in part, and written. The definitions
 // that the contracts cite stand in specs/.
 #![tactic(auto)]
+
 mod axes;
 mod reader;
 mod writer;

@@ -1,14 +1,13 @@
 -- Totals updated from a call stand for the counts with the call: the proof of `CountedIs`, and what it says of the plain reckoning.
-use mathlib.Core.Path.{◌≡◌, refl, sym, ap, ◌∙◌}
+use mathlib.Core.Path.{◌≡◌, refl, ap, ◌∙◌}
 use mathlib.Core.List.{List, [], ◌∷◌, ◌++◌}
-use Prim.Native.Nat.{ℕ, zero, suc, ◌+◌, ◌-◌, ◌≤◌, ◌<◌, min}
+use Prim.Native.Nat.{ℕ, zero, suc, ◌+◌, ◌≤◌, ◌<◌}
 use native.Mathlib.Omega.{arith}
 use borrow.Author.Tests.{eq-eqb, ne_eqb}
 use lib.Dec.{eqb}
 use lib.ListN.{get_or, set}
-use Rattle.totals.specs.declared.Tally.{Tally}
-use Rattle.totals.specs.Tally.{largest, stopped, plus_up_to, errors_after, counted_with, good_bytes, counted_of}
-use Rattle.totals.specs.Counts.{Counts, one_if, times, by_error_from, by_error, totals_of, counts_after, CountedIs}
+use Rattle.totals.specs.Tally.{stopped, plus_up_to, counted_with, good_bytes, counted_of}
+use Rattle.totals.specs.Counts.{one_if, times, by_error_from, by_error, totals_of, counts_after, CountedIs}
 
 -- A total with n more stands for the count with n more.
 more : (count n : ℕ) → plus_up_to (stopped count) n ≡ stopped (count + n)

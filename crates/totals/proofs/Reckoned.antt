@@ -9,22 +9,22 @@ use borrow.Author.Tests.{ltb-false}
 use lib.Dec.{eqb, ltb}
 use lib.ListN.{length, length-append}
 use Rattle.stream.specs.declared.Verdict.{Verdict}
-use Rattle.stream.specs.Scan.{Message, good_in, skipped_in, standing}
+use Rattle.stream.specs.Scan.{Message, good_in, skipped_in}
 use Rattle.stream.specs.Silence.{bytes_in}
 use Rattle.stream.specs.Cutting.{Cutting}
 use Rattle.stream.proofs.Events.{skipped_in-append, good_in-append}
 use Rattle.history.specs.Calls.{Input, fed, silent, Call, Answer, Step, refused, refuse, State, Turn, port_of, settled, accept}
 use Rattle.history.specs.Reckoning.{Outcome, Ledger, marked, shortest, handle_next, used_up, reckon_on, reckon_feed, reckon_call, reckon_step}
 use Rattle.history.specs.Program.{Tests, held_step}
-use Rattle.history.specs.Drained.{Undrained, undrained_of, undrained_after, early}
+use Rattle.history.specs.Drained.{Undrained, undrained_of, early}
 use Rattle.history.specs.Premises.{Handles}
-use Rattle.history.proofs.Driven.{Related, Stepped, port_related}
+use Rattle.history.proofs.Driven.{Related, port_related}
 use Rattle.history.proofs.Grows.{replies_by, Grows, call_grows}
 use Rattle.history.proofs.Steps.{step_related}
 use Rattle.history.proofs.Tracks.{Tracks}
 use Rattle.totals.specs.declared.Tally.{Tally}
 use Rattle.totals.specs.Tally.{good_bytes, counted_of}
-use Rattle.totals.specs.Counts.{Counts, totals_of, counts_after, errors_in, counts_in}
+use Rattle.totals.specs.Counts.{totals_of, counts_after, errors_in, counts_in}
 use Rattle.totals.proofs.Counted.{counted_is}
 use Rattle.totals.proofs.Sums.{counted_none}
 

@@ -1,13 +1,13 @@
 -- Sums that stop at the largest figure.
-use Prim.Native.Nat.{ℕ, zero, suc, ◌+◌, ◌-◌, ◌≤◌, ◌<◌, min}
+use Prim.Native.Nat.{ℕ, zero, suc, ◌+◌, ◌-◌, ◌≤◌, ◌<◌}
 use native.Mathlib.Omega.{arith}
 use native.Mathlib.Decide.{dec_lt}
-use mathlib.Core.Path.{◌≡◌, refl, sym, ◌∙◌, ap}
+use mathlib.Core.Path.{◌≡◌, refl, ◌∙◌, ap}
 use mathlib.Core.List.{List, [], ◌∷◌}
 use lib.ListN.{length, get_or, set, drop, length-set, length-drop}
 use lib.Seq.{set_out}
 use Rattle.totals.specs.declared.Tally.{Tally}
-use Rattle.totals.specs.Tally.{plus_up_to, good_bytes, errors_after, unless_refused, counted_with, counted_of, row_of, tally_in}
+use Rattle.totals.specs.Tally.{plus_up_to, good_bytes, errors_after, unless_refused, counted_with, row_of, tally_in}
 use Rattle.totals.specs.Row.{plus_at}
 
 module _ (total n : ℕ) where

@@ -1,5 +1,6 @@
 // The totals of a port since the start: in the board, and in a driver's tally record.
 #![tactic(auto)]
+
 ghost use Rattle.std.specs.Prelude.{◌≡◌, ◌-◌};
 ghost use Rattle.totals.specs.Tally.{plus_up_to, zero_tally, good_bytes, counted_of};
 

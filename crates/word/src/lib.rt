@@ -1,5 +1,6 @@
 // Big-endian numbers (document 01, "A message": numbers are big-endian).
 #![tactic(auto)]
+
 ghost use Rattle.std.specs.Prelude.{◌≡◌, take};
 ghost use Rattle.word.specs.Word.{number, word};
 

@@ -1,6 +1,5 @@
 -- `board::keep::clear_from` meets its contract.
 use native.Mathlib.Omega.{arith}
-use Prim.Native.Nat.{◌-◌}
 use Rattle.board.proofs.Kept.{clear_suc}
 use Rattle.board.proofs.keep.clear_from.Goals as goal
 

@@ -1,5 +1,5 @@
 -- `command::answer::answer_fields` meets its contract. Invariant: what is placed, with the fields that remain, is the whole.
-use Prim.Native.Nat.{◌+◌, ◌-◌}
+use Prim.Native.Nat.{◌-◌}
 use mathlib.Core.Path.{◌≡◌}
 use mathlib.Core.List.{◌++◌}
 use lib.ListN.{length, take, drop}

@@ -1,5 +1,5 @@
 -- `command::fields::fields_fit` meets its contract. Invariant: with n fields passed, what remains is refused where the whole is.
-use Prim.Native.Nat.{◌+◌, ◌-◌, ◌≤◌}
+use Prim.Native.Nat.{◌≤◌}
 use native.Mathlib.Omega.{arith}
 use mathlib.Core.Path.{sym, ◌∙◌}
 use mathlib.Core.List.{◌++◌}

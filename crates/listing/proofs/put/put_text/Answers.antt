@@ -1,5 +1,4 @@
 -- `listing::put::put_text` meets its contract. Invariant: behind the first `at` bytes stand the first i bytes of the text.
-use Prim.Native.Nat.{◌-◌}
 use native.Mathlib.Omega.{arith}
 use native.Mathlib.Numerals.{add-one}
 use lib.Seq.{paste-suc}

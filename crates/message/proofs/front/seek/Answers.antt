@@ -1,5 +1,5 @@
 -- `message::front::seek` meets its contract. The invariant: what remains to be sought is what is sought in all.
-use Rattle.std.proofs.Common.{◌-◌, ◌<◌, length, arith, rules}
+use Rattle.std.proofs.Common.{◌<◌, length, arith, rules}
 use Rattle.stream.proofs.Ends.{nothing_left, skip_passed, message_found, undecided_passed, undecided_stops}
 use Rattle.message.proofs.Fronts.{skip_there, whole_there}
 use Rattle.message.proofs.Skipped.{seek_passes_here}

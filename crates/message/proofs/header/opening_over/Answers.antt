@@ -23,13 +23,13 @@ returns-then-byte_over-3 c =
 pub returns-then-left-n : goal.returns-then-left-n
 returns-then-left-n c =
     let told : SizeTold c.args.held.now c.args.chunk.now c.size_from-n.result =
-            told_size c.args.held.now c.args.chunk.now c.if-left-eq0.false _ c.byte_over.ensures (search rules) (search rules) _ c.byte_over-2.ensures
-            (search rules) _ c.byte_over-3.ensures (search rules) _ c.byte_over-4.ensures _ c.size_from-n.ensures in
+    told_size c.args.held.now c.args.chunk.now c.if-left-eq0.false _ c.byte_over.ensures (search rules) (search rules) _ c.byte_over-2.ensures
+    (search rules) _ c.byte_over-3.ensures (search rules) _ c.byte_over-4.ensures _ c.size_from-n.ensures in
     told_incomplete c.args.held.now c.args.chunk.now _ told c.if-left-n.true
 
 pub returns-else-left-n : goal.returns-else-left-n
 returns-else-left-n c =
     let told : SizeTold c.args.held.now c.args.chunk.now c.size_from-n.result =
-            told_size c.args.held.now c.args.chunk.now c.if-left-eq0.false _ c.byte_over.ensures (search rules) (search rules) _ c.byte_over-2.ensures
-            (search rules) _ c.byte_over-3.ensures (search rules) _ c.byte_over-4.ensures _ c.size_from-n.ensures in
+    told_size c.args.held.now c.args.chunk.now c.if-left-eq0.false _ c.byte_over.ensures (search rules) (search rules) _ c.byte_over-2.ensures
+    (search rules) _ c.byte_over-3.ensures (search rules) _ c.byte_over-4.ensures _ c.size_from-n.ensures in
     told_complete c.args.held.now c.args.chunk.now _ told c.if-left-n.false

@@ -1,5 +1,4 @@
 -- `message::skips::past_blocks` meets its contract. The invariant: what is before `i` is skipped.
-use Rattle.std.proofs.Common.{◌-◌}
 use Rattle.message.proofs.Skipped.{skips_block}
 use Rattle.message.proofs.skips.past_blocks.Goals as goal
 

@@ -1,5 +1,4 @@
 -- `message::skips::past_run_blocks` meets its contract. The invariant: two A5 stand at `i`, and what is before it is skipped.
-use Rattle.std.proofs.Common.{◌-◌}
 use Rattle.message.proofs.Skipped.{run_block}
 use Rattle.message.proofs.skips.past_run_blocks.Goals as goal
 

@@ -1,5 +1,5 @@
 -- `message::window::seek_over` meets its contract. The invariant: what remains to be sought is what is sought in all.
-use Rattle.std.proofs.Common.{◌-◌, rules}
+use Rattle.std.proofs.Common.{rules}
 use Rattle.stream.proofs.Ends.{skip_passed, message_found, undecided_passed, undecided_stops}
 use Rattle.message.proofs.Fronts.{skip_there, whole_there}
 use Rattle.message.proofs.Windows.{held_within}

@@ -1,5 +1,5 @@
 -- `message::write::put_body` meets its contract. Invariant: behind the header stand the first i bytes of the payload.
-use Rattle.std.proofs.Common.{◌-◌, arith, length-set}
+use Rattle.std.proofs.Common.{arith, length-set}
 use Rattle.message.proofs.Writes.{body_more}
 use Rattle.message.proofs.write.put_body.Goals as goal
 

@@ -1,5 +1,4 @@
 -- `page::sound::blank_from` meets its contract, with the invariant of `blank`.
-use Prim.Native.Nat.{◌-◌}
 use borrow.Author.Rules.{rules}
 use Rattle.page.proofs.Walks.{compared_more, gathered_all}
 use Rattle.page.proofs.sound.blank_from.Goals as goal

@@ -1,6 +1,5 @@
 -- `sample::reader::field_start` meets its contract. Invariant: of the fields that remain, the one to find is number `left`.
 use borrow.Author.Rules.{rules}
-use Prim.Native.Nat.{◌-◌}
 use Rattle.sample.proofs.Walks.{walk_starts, walk_steps}
 use Rattle.sample.proofs.reader.field_start.Goals as goal
 

@@ -1,7 +1,6 @@
 -- `sample::reader::test_fields` meets its contract. Invariant: what remains, with the sizes passed, gives the number of the whole.
 use borrow.Author.Rules.{rules}
 use native.Mathlib.Omega.{arith}
-use Prim.Native.Nat.{◌-◌}
 use mathlib.Core.Path.{refl}
 use Rattle.message.specs.Fields.{fields_of}
 use Rattle.sample.proofs.Walks.{tested_over, tested_passes}
