@@ -1,3 +1,3 @@
-pub mod Gathered
+pub mod Within
 pub mod Moved
 pub mod RowsFound
