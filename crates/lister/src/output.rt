@@ -186,8 +186,8 @@ pub(crate) fn write_totals(rt: &impl Files, totals: [u64; 11], held: usize) {
 // Descriptor 3 as a file.
 const SERVICE: &str = "/proc/self/fd/3";
 
-// Writes to descriptor 3, where it is open for writing. It is opened anew, to append to what a file has, and for reading too: a pipe that
-// nobody reads would else keep the program waiting.
+// Writes to descriptor 3, where it is open for writing. It is opened anew, to append to what a file has, and for reading too: a named pipe
+// that nobody reads would else keep the program waiting.
 fn write_service(rt: &impl Files, text: &[u8]) -> io::Result<()> {
     // by the link's own mode, which is how the descriptor is open
     if fs::symlink_metadata(rt, SERVICE)?.permissions().mode() & 0o200 == 0 {
