@@ -33,10 +33,10 @@ impl Progress {
     }
 
     // The same with what is gathered written, or given up after a write that failed.
-    pub(crate) fn flush(self, out: &[u8]) -> Self {
+    pub(crate) fn flush(self, rt: &impl Print, out: &[u8]) -> Self {
         let settings = self.settings;
         let before = self.gathered;
-        let gathered = flush(before, out);
+        let gathered = flush(rt, before, out);
         Progress {
             held: self.held,
             settings,
@@ -49,6 +49,7 @@ impl Progress {
     // One feed, and the lines of the message that it finds.
     fn feed(
         self,
+        rt: &impl Print,
         bytes: &mut [u8],
         totals: &mut [u64],
         chunk: &[u8],
@@ -72,7 +73,7 @@ impl Progress {
         );
         let settings = fed.settings;
         let before = self.gathered;
-        let gathered = gather_found(fed.number, reply, fed.saved, before, out);
+        let gathered = gather_found(rt, fed.number, reply, fed.saved, before, out);
         Progress {
             held: fed.held,
             settings,
@@ -84,6 +85,7 @@ impl Progress {
 }
 
 fn gather_found(
+    rt: &impl Print,
     number: u8,
     reply: &[u8],
     saved: bool,
@@ -93,12 +95,13 @@ fn gather_found(
     if number != 0 {
         return before;
     }
-    gather_rows(kind_of(reply), payload_of(reply), saved, before, out)
+    gather_rows(rt, kind_of(reply), payload_of(reply), saved, before, out)
 }
 
 // Feeds a piece until a feed answers 1. That a feed which answers 0 leaves fewer bytes, held or in the piece, is in the
 // contract of `feed`.
 pub(crate) fn feed_all(
+    rt: &impl Print,
     start: Progress,
     bytes: &mut [u8],
     totals: &mut [u64],
@@ -110,7 +113,7 @@ pub(crate) fn feed_all(
     let mut p = start;
     let mut at = 0;
     loop {
-        p = p.feed(bytes, totals, &piece[at..], &mut reply, page, out);
+        p = p.feed(rt, bytes, totals, &piece[at..], &mut reply, page, out);
         if p.number != 0 {
             return p;
         }

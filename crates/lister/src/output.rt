@@ -1,6 +1,11 @@
 // What the program prints, gathered in a block that is written when the next line might not fit, and before each read.
 ghost use Rattle.std.specs.Prelude.{◌≤◌, ◌≡◌, length};
 
+use std::fs::{Files, OpenOptions};
+use std::io::Write;
+use std::os::unix::fs::PermissionsExt;
+use std::{fs, io};
+
 // The first `n` bytes, all where there are fewer: in a caller's proof nothing is left to show.
 fn prefix(s: &[u8], n: usize) -> &[u8]
     ensures { length result.now ≤ n }
@@ -11,26 +16,43 @@ fn prefix(s: &[u8], n: usize) -> &[u8]
     &s[0..n]
 }
 
-// How much of the block is gathered, and whether all that was to be written until now has been.
-#[derive(Drop)]
+// How much of the block is gathered, whether all that was to be written until now has been, and, where a write failed, whether that was since
+// nobody reads what is written any more.
+#[derive(Clone, Copy)]
 pub struct Gathered {
     used: usize,
     pub written: bool,
+    pub reader_left: bool,
 }
 
 // Writes what is gathered. After a write that failed nothing more is written: it would stand in the place of what is missing.
-pub(crate) fn flush(g: Gathered, out: &[u8]) -> Gathered
+pub(crate) fn flush(rt: &impl Print, g: Gathered, out: &[u8]) -> Gathered
     ensures { result.used ≡ 0 }
 {
     let mut written = g.written;
+    let mut reader_left = g.reader_left;
     if written {
-        written = io::write_all(1, prefix(out, g.used));
+        let done = rt.write_all(prefix(out, g.used));
+        written = done.is_ok();
+        reader_left = has_left(done);
     }
-    Gathered { used: 0, written }
+    Gathered {
+        used: 0,
+        written,
+        reader_left,
+    }
+}
+
+// Did a write fail since nobody reads any more?
+fn has_left(done: io::Result<()>) -> bool {
+    match done {
+        Ok(()) => false,
+        Err(e) => e.kind() == io::ErrorKind::BrokenPipe,
+    }
 }
 
 // The next `size` bytes stand behind what is gathered, or at the front once that is written.
-fn with_room(size: usize, g: Gathered, out: &[u8]) -> Gathered
+fn with_room(rt: &impl Print, size: usize, g: Gathered, out: &[u8]) -> Gathered
     ensures { result.used ≤ length out.now }
 {
     if g.used < out.len() {
@@ -38,7 +60,7 @@ fn with_room(size: usize, g: Gathered, out: &[u8]) -> Gathered
             return g;
         }
     }
-    flush(g, out)
+    flush(rt, g, out)
 }
 
 pub(crate) fn gather_heading(out: &mut [u8]) -> Gathered {
@@ -46,6 +68,7 @@ pub(crate) fn gather_heading(out: &mut [u8]) -> Gathered {
     Gathered {
         used: heading.length,
         written: true,
+        reader_left: false,
     }
 }
 
@@ -71,6 +94,7 @@ fn count_of(n: u8) -> usize
 
 // The lines of a message whose reply has this type and payload, one for each row: byte 2 of a row is the echo, byte 3 the error.
 pub(crate) fn gather_rows(
+    rt: &impl Print,
     kind: u8,
     rows: &[u8],
     saved: bool,
@@ -82,13 +106,14 @@ pub(crate) fn gather_rows(
     let mut g = start;
     let mut at = 0;
     while at + 3 < rows.len() {
-        g = gather_line(kind, rows[at + 2], rows[at + 3], saved, g, out);
+        g = gather_line(rt, kind, rows[at + 2], rows[at + 3], saved, g, out);
         at += listing::row_size(&rows[at..]);
     }
     g
 }
 
 fn gather_line(
+    rt: &impl Print,
     kind: u8,
     echo: u8,
     error: u8,
@@ -96,28 +121,31 @@ fn gather_line(
     before: Gathered,
     out: &mut [u8],
 ) -> Gathered {
-    let g = with_room(listing::LONGEST_LINE, before, out);
+    let g = with_room(rt, listing::LONGEST_LINE, before, out);
     let from = g.used;
     let line = listing::write_line(kind, echo, error, saved, &mut out[from..]);
     Gathered {
         used: from + line.length,
         written: g.written,
+        reader_left: g.reader_left,
     }
 }
 
 pub(crate) fn gather_counts(
+    rt: &impl Print,
     taken: u64,
     skipped: u64,
     held: usize,
     before: Gathered,
     out: &mut [u8],
 ) -> Gathered {
-    let g = with_room(listing::LONGEST_COUNTS, before, out);
+    let g = with_room(rt, listing::LONGEST_COUNTS, before, out);
     let from = g.used;
     let counts = listing::write_counts(taken, skipped, held, &mut out[from..]);
     Gathered {
         used: from + counts.length,
         written: g.written,
+        reader_left: g.reader_left,
     }
 }
 
@@ -133,12 +161,12 @@ fn put_total(n: u64, used: usize, text: &mut [u8]) -> usize
 }
 
 // Says what went wrong, on standard error. Where that cannot be written either, the totals that are missing say it.
-pub(crate) fn tell(what: &[u8]) {
-    io::write_all(2, what);
+pub(crate) fn tell(rt: &impl Eprint, what: &str) {
+    let _ = rt.eprint(what);
 }
 
 // The totals of port 0, those of bytes and those of messages by error, and what it holds: each on a line of its own.
-pub(crate) fn write_totals(totals: [u64; 11], held: usize) {
+pub(crate) fn write_totals(rt: &impl Files, totals: [u64; 11], held: usize) {
     let mut text = [0u8; 252];
     let a = put_total(totals[0], 0, &mut text);
     let b = put_total(totals[1], a, &mut text);
@@ -152,5 +180,22 @@ pub(crate) fn write_totals(totals: [u64; 11], held: usize) {
     let e6 = put_total(totals[9], e5, &mut text);
     let e7 = put_total(totals[10], e6, &mut text);
     let all = put_total(held as u64, e7, &mut text);
-    io::write_all(3, prefix(&text, all));
+    let _ = write_service(rt, prefix(&text, all));
+}
+
+// Descriptor 3 as a file.
+const SERVICE: &str = "/proc/self/fd/3";
+
+// Writes to descriptor 3, where it is open for writing. It is opened anew, to append to what a file has, and for reading too: a named pipe
+// that nobody reads would else keep the program waiting.
+fn write_service(rt: &impl Files, text: &[u8]) -> io::Result<()> {
+    // by the link's own mode, which is how the descriptor is open
+    if fs::symlink_metadata(rt, SERVICE)?.permissions().mode() & 0o200 == 0 {
+        return Ok(());
+    }
+    let mut service = OpenOptions::new()
+        .read(true)
+        .append(true)
+        .open(rt, SERVICE)?;
+    service.write_all(text)
 }
