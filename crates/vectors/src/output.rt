@@ -1,11 +1,15 @@
 // What the program prints, gathered in a block that is written when it is full.
 ghost use Rattle.std.specs.Prelude.{◌≡◌, ◌+◌, ◌<◌, ◌≤◌, length};
 
-use crate::text::prefix;
+use crate::text::{find, prefix};
+use listing::LONGEST_TOTAL;
+use std::fs::OpenOptions;
+use std::io;
 
 // Taken by value and returned, so that a line reads as a chain of its parts.
 #[derive(Drop)]
 pub struct Output {
+    rt: HostRuntime,
     block: [u8; 512],
     used: usize,
     // whether all that was to be written until now has been
@@ -15,10 +19,11 @@ pub struct Output {
 }
 
 impl Output {
-    pub(crate) fn new() -> Self
+    pub(crate) fn new(rt: HostRuntime) -> Self
         ensures { result.used ≡ 0 }
     {
         Output {
+            rt,
             block: [0u8; 512],
             used: 0,
             written: true,
@@ -30,11 +35,12 @@ impl Output {
     fn flush(self) -> Self
         ensures { result.used ≡ 0 }
     {
-        let mut out = Output::new();
+        let mut out = Output::new(self.rt);
         out.faults = self.faults;
         out.written = self.written;
         if out.written {
-            out.written = io::write_all(1, prefix(&self.block, self.used));
+            let left = prefix(&self.block, self.used);
+            out.written = self.rt.stdout().write_all(left).is_ok();
         }
         out
     }
@@ -44,17 +50,16 @@ impl Output {
     pub(crate) fn finish(self) {
         let done = self.flush();
         if !done.written {
-            io::write_all(2, b"vectors: standard output could not be written\n");
+            say(done.rt, b"vectors: standard output could not be written\n");
             return;
         }
-        io::print_decimal(3, done.faults);
-        io::write_all(3, b"\n");
+        tell(done.rt, done.faults);
     }
 
     // Writes what is left, and says why the script ends here.
     pub(crate) fn stop(self, why: &[u8]) {
-        self.flush();
-        io::write_all(2, why);
+        let done = self.flush();
+        say(done.rt, why);
     }
 
     fn with_room(self) -> Self
@@ -113,9 +118,9 @@ impl Output {
     }
 
     pub(crate) fn decimal(self, n: u64) -> Self {
-        let mut digits = [0u8; 20];
-        let k = io::decimal(n, &mut digits);
-        self.text(&digits[..k])
+        let mut line = [0u8; LONGEST_TOTAL];
+        listing::write_total(n, &mut line);
+        self.text(prefix(&line, find(&line, b'\n', 0)))
     }
 
     // Two digits, in upper case.
@@ -154,6 +159,20 @@ impl Output {
             left -= 1;
         }
         out
+    }
+}
+
+// Says what went wrong on standard error. Where that fails, there is nowhere left to say it.
+fn say(rt: HostRuntime, why: &[u8]) {
+    let _ = rt.stderr().write_all(why);
+}
+
+// Writes a number and a line's end behind what descriptor 3 has. Where nobody has opened it, nobody is told.
+fn tell(rt: HostRuntime, n: u64) {
+    let mut line = [0u8; LONGEST_TOTAL];
+    let written = listing::write_total(n, &mut line);
+    if let Ok(mut told) = OpenOptions::new().append(true).open(&rt, "/dev/fd/3") {
+        let _ = io::Write::write_all(&mut told, prefix(&line, written.length));
     }
 }
 

@@ -4,18 +4,19 @@ ghost use Rattle.std.specs.Prelude.{◌+◌, ◌≤◌, length};
 use crate::bench::{Bench, Told};
 use crate::output::Output;
 use crate::{boards, text};
+use std::io;
 
 // A loop that reads has to end: more reads than a script takes.
 const READS: u64 = 0x1_0000_0000;
 
 // `block` has to have room for the longest line and its end.
-pub(crate) fn run(block: &mut [u8]) {
+pub(crate) fn run(rt: HostRuntime, block: &mut [u8]) {
     let mut bench = Bench::blank();
-    let mut out = Output::new();
+    let mut out = Output::new(rt);
     let mut kept = 0;
     let mut turn = 0;
     while turn < READS {
-        let read = read_behind(block, kept, out.written);
+        let read = read_behind(rt, block, kept, out.written);
         let n = read.end;
         if n == kept {
             finish(text::prefix(block, kept), read.failed, bench, out);
@@ -43,7 +44,7 @@ pub struct Read {
 }
 
 // Reads on behind the first `kept` bytes. Where a write has failed, the script ends here.
-fn read_behind(block: &mut [u8], kept: usize, written: bool) -> Read
+fn read_behind(rt: HostRuntime, block: &mut [u8], kept: usize, written: bool) -> Read
     requires { kept ≤ length block.old }
     ensures { (kept ≤ result.end) × (result.end ≤ length block.new) }
 {
@@ -53,20 +54,22 @@ fn read_behind(block: &mut [u8], kept: usize, written: bool) -> Read
             failed: false,
         };
     }
-    let read = read_once(&mut block[kept..]);
+    let read = read_once(rt, &mut block[kept..]);
     Read {
         end: kept + read.end,
         failed: read.failed,
     }
 }
 
-fn read_once(block: &mut [u8]) -> Read
+fn read_once(rt: HostRuntime, block: &mut [u8]) -> Read
     ensures { result.end ≤ length block.new }
 {
-    let got = libc::read(0, block);
-    Read {
-        end: io::count(got, block),
-        failed: got < 0,
+    match io::Read::read(&mut rt.stdin(), block) {
+        Ok(end) => Read { end, failed: false },
+        Err(_) => Read {
+            end: 0,
+            failed: true,
+        },
     }
 }
 
