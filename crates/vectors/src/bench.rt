@@ -51,8 +51,7 @@ impl Bench {
         Bench::on(board, bytes, self.length)
     }
 
-    // What stands beside it, for a call that takes a board.
-    pub(crate) fn copy(&self) -> Self {
+    fn copy(&self) -> Self {
         Bench::on(copy_board(&self.board), self.bytes, self.length)
     }
 
@@ -118,12 +117,12 @@ impl Bench {
         }
     }
 
-    pub(crate) fn port(&self, number: u8) -> &Port {
+    pub(crate) fn port(&self, number: u8) -> Port {
         let board = &self.board;
         if number == 0 {
-            &board.first
+            copy_port(&board.first)
         } else {
-            &board.second
+            copy_port(&board.second)
         }
     }
 
@@ -246,7 +245,7 @@ impl Bench {
         let step = alone.feed(port, message, room, n);
         let fed = step.fed;
         let after = step.bench;
-        let held = copy_port(self.port(port));
+        let held = self.port(port);
         let counted = after.tally(port);
         let bench = after.with_port(port, held, counted);
         FeedStep { fed, bench }
@@ -275,8 +274,7 @@ impl Bench {
     }
 }
 
-// A port's bytes and how many it holds, once more.
-pub(crate) fn copy_port(port: &Port) -> Port
+fn copy_port(port: &Port) -> Port
     ensures { result ≡ port.now }
 {
     Port {

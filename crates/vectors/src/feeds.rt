@@ -86,14 +86,7 @@ fn silence(args: &[u8], bench: Bench, out: Output) -> Told {
 }
 
 // Where the calls in place agree, nothing is said of them.
-fn say_step(
-    fed: &Fed,
-    after: Bench,
-    room: &[u8],
-    same: bool,
-    before: &Bench,
-    out: Output,
-) -> Told {
+fn say_step(fed: &Fed, after: Bench, room: &[u8], same: bool, before: &Bench, out: Output) -> Told {
     let answer = say_fed(fed, out).text(b", room ").bytes(room);
     let told = after.say_page(before, answer);
     Told {
@@ -216,7 +209,7 @@ fn show(args: &[u8], bench: Bench, out: Output) -> Told {
     Told { bench, out: told }
 }
 
-fn say_port(port: &Port, out: Output) -> Output {
+fn say_port(port: Port, out: Output) -> Output {
     let held = port.held;
     let told = out
         .decimal(held as u64)

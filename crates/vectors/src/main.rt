@@ -1,6 +1,7 @@
 // Reads a script of test vectors from standard input, runs each line through the library's calls, and prints the line
 // with what came of it.
 #![tactic(auto)]
+
 mod bench;
 mod boards;
 mod commands;
@@ -16,7 +17,9 @@ mod streams;
 mod tallies;
 mod text;
 
-fn main(rt: HostRuntime) {
+use std::process::ExitCode;
+
+fn main(rt: HostRuntime) -> ExitCode {
     let mut block = [0u8; 65536];
-    script::run(rt, &mut block);
+    script::run(rt, &mut block)
 }

@@ -4,7 +4,15 @@ ghost use Rattle.std.specs.Prelude.{◌≡◌, ◌+◌, ◌<◌, ◌≤◌, leng
 use crate::text::{find, prefix};
 use listing::LONGEST_TOTAL;
 use std::fs::OpenOptions;
-use std::io;
+use std::os::unix::fs::PermissionsExt;
+use std::process::ExitCode;
+use std::{fs, io};
+
+// The exit status where whoever reads the output has left.
+const READER_LEFT: u8 = 141;
+
+// Descriptor 3 as a file.
+const TOLD: &str = "/proc/self/fd/3";
 
 // Taken by value and returned, so that a line reads as a chain of its parts.
 #[derive(Drop)]
@@ -14,6 +22,8 @@ pub struct Output {
     used: usize,
     // whether all that was to be written until now has been
     pub written: bool,
+    // where a write failed, whether that was since nobody reads what is written any more
+    reader_left: bool,
     // how many lines were not as they should be
     pub faults: u64,
 }
@@ -27,6 +37,7 @@ impl Output {
             block: [0u8; 512],
             used: 0,
             written: true,
+            reader_left: false,
             faults: 0,
         }
     }
@@ -38,28 +49,39 @@ impl Output {
         let mut out = Output::new(self.rt);
         out.faults = self.faults;
         out.written = self.written;
+        out.reader_left = self.reader_left;
         if out.written {
-            let left = prefix(&self.block, self.used);
-            out.written = self.rt.stdout().write_all(left).is_ok();
+            let done = self.rt.write_all(prefix(&self.block, self.used));
+            out.written = done.is_ok();
+            out.reader_left = has_left(done);
         }
         out
     }
 
-    // Writes what is left. A program has no exit status: where all was written, and only then, descriptor 3 is told how many lines
-    // were not as they should be. bin/vectors learns from it that the script was run to its end.
-    pub(crate) fn finish(self) {
+    // Writes what is left. Where all was written, and only then, descriptor 3 is told how many lines were not as they should be.
+    // bin/vectors learns from it that the script was run to its end, and not from the exit status, which is 0. But where whoever reads the
+    // output has left, nothing is said, and the status is 141, as that of other programs, which SIGPIPE ends.
+    pub(crate) fn finish(self) -> ExitCode {
         let done = self.flush();
-        if !done.written {
-            say(done.rt, b"vectors: standard output could not be written\n");
-            return;
+        if done.written {
+            let _ = tell(done.rt, done.faults);
+            return ExitCode::SUCCESS;
         }
-        tell(done.rt, done.faults);
+        done.say(b"vectors: standard output could not be written\n")
     }
 
     // Writes what is left, and says why the script ends here.
-    pub(crate) fn stop(self, why: &[u8]) {
-        let done = self.flush();
-        say(done.rt, why);
+    pub(crate) fn stop(self, why: &[u8]) -> ExitCode {
+        self.flush().say(why)
+    }
+
+    // Says what went wrong on standard error. Where that cannot be written either, what descriptor 3 is not told says it.
+    fn say(self, why: &[u8]) -> ExitCode {
+        if self.reader_left {
+            return ExitCode::from(READER_LEFT);
+        }
+        let _ = self.rt.stderr().write_all(why);
+        ExitCode::SUCCESS
     }
 
     fn with_room(self) -> Self
@@ -162,18 +184,25 @@ impl Output {
     }
 }
 
-// Says what went wrong on standard error. Where that fails, there is nowhere left to say it.
-fn say(rt: HostRuntime, why: &[u8]) {
-    let _ = rt.stderr().write_all(why);
+// Did a write fail since nobody reads any more?
+fn has_left(done: io::Result<()>) -> bool {
+    match done {
+        Ok(()) => false,
+        Err(e) => e.kind() == io::ErrorKind::BrokenPipe,
+    }
 }
 
-// Writes a number and a line's end behind what descriptor 3 has. Where nobody has opened it, nobody is told.
-fn tell(rt: HostRuntime, n: u64) {
+// Writes a number, on a line of its own, to descriptor 3, where it is open for writing. It is opened anew, to append to what a file has,
+// and for reading too: a pipe that nobody reads would else keep the program waiting.
+fn tell(rt: HostRuntime, n: u64) -> io::Result<()> {
+    // by the link's own mode, which is how the descriptor is open
+    if fs::symlink_metadata(&rt, TOLD)?.permissions().mode() & 0o200 == 0 {
+        return Ok(());
+    }
     let mut line = [0u8; LONGEST_TOTAL];
     let written = listing::write_total(n, &mut line);
-    if let Ok(mut told) = OpenOptions::new().append(true).open(&rt, "/dev/fd/3") {
-        let _ = io::Write::write_all(&mut told, prefix(&line, written.length));
-    }
+    let mut told = OpenOptions::new().read(true).append(true).open(&rt, TOLD)?;
+    io::Write::write_all(&mut told, prefix(&line, written.length))
 }
 
 fn digit(d: u8) -> u8

@@ -5,12 +5,13 @@ use crate::bench::{Bench, Told};
 use crate::output::Output;
 use crate::{boards, text};
 use std::io;
+use std::process::ExitCode;
 
 // A loop that reads has to end: more reads than a script takes.
 const READS: u64 = 0x1_0000_0000;
 
 // `block` has to have room for the longest line and its end.
-pub(crate) fn run(rt: HostRuntime, block: &mut [u8]) {
+pub(crate) fn run(rt: HostRuntime, block: &mut [u8]) -> ExitCode {
     let mut bench = Bench::blank();
     let mut out = Output::new(rt);
     let mut kept = 0;
@@ -19,21 +20,19 @@ pub(crate) fn run(rt: HostRuntime, block: &mut [u8]) {
         let read = read_behind(rt, block, kept, out.written);
         let n = read.end;
         if n == kept {
-            finish(text::prefix(block, kept), read.failed, bench, out);
-            return;
+            return finish(text::prefix(block, kept), read.failed, bench, out);
         }
         let whole = end_of_lines(block, n);
         kept = n - whole;
         if kept == block.len() {
-            out.stop(b"vectors: a line is too long\n");
-            return;
+            return out.stop(b"vectors: a line is too long\n");
         }
         let told = run_block(block, whole, kept, bench, out);
         bench = told.bench;
         out = told.out;
         turn += 1;
     }
-    out.stop(b"vectors: the script is too long\n");
+    out.stop(b"vectors: the script is too long\n")
 }
 
 // What a read gave: where its bytes end in the block. One that failed gave none.
@@ -110,13 +109,12 @@ fn move_front(block: &mut [u8], from: usize, n: usize)
 }
 
 // The last line may have no end.
-fn finish(line: &[u8], failed: bool, bench: Bench, out: Output) {
+fn finish(line: &[u8], failed: bool, bench: Bench, out: Output) -> ExitCode {
     if failed {
-        out.stop(b"vectors: the script could not be read\n");
-        return;
+        return out.stop(b"vectors: the script could not be read\n");
     }
     let told = run_lines(line, bench, out);
-    told.out.finish();
+    told.out.finish()
 }
 
 fn run_lines(lines: &[u8], start: Bench, before: Output) -> Told {

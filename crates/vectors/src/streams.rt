@@ -138,10 +138,10 @@ fn size_agrees(s: &[u8], whole: &Run, size: usize, other: usize) -> bool {
     let both = feed_pieces(s, size, other);
     all_agree(&first, 0, track, bench)
         && all_agree(&second, 1, track, bench)
-        && same_port(first.bench.port(1), fresh)
-        && same_port(second.bench.port(0), fresh)
-        && counts_agree(&both, 0, track, held)
-        && counts_agree(&both, 1, track, held)
+        && same_port(&first.bench.port(1), &fresh)
+        && same_port(&second.bench.port(0), &fresh)
+        && counts_agree(&both, 0, track, &held)
+        && counts_agree(&both, 1, track, &held)
 }
 
 impl Run {
@@ -157,7 +157,7 @@ fn counts_agree(run: &Run, port: u8, track: Track, held: &Port) -> bool {
         && t.messages == track.messages
         && t.skipped == track.skipped
         && t.marks == track.marks
-        && same_port(bench.port(port), held)
+        && same_port(&bench.port(port), held)
 }
 
 fn all_agree(run: &Run, port: u8, track: Track, after: &Bench) -> bool {
@@ -165,7 +165,7 @@ fn all_agree(run: &Run, port: u8, track: Track, after: &Bench) -> bool {
     let board = &bench.board;
     let other = &after.board;
     let t = run.track(port);
-    counts_agree(run, port, track, after.port(0))
+    counts_agree(run, port, track, &after.port(0))
         && t.replies == track.replies
         && bench::same_settings(board.settings, other.settings)
         && bench.same_page(after)

@@ -109,7 +109,7 @@ fn set(args: &[u8], bench: Bench, out: Output) -> Told {
         number_at(&bytes, 72),
         number_at(&bytes, 80),
     ]);
-    let named = bench::copy_port(bench.port(port));
+    let named = bench.port(port);
     Told {
         bench: bench.with_port(port, named, tally),
         out: say_tally(tally, out),
