@@ -274,6 +274,7 @@ impl Bench {
     }
 }
 
+// A port and a board are moved where they are passed on: a second one is made by name.
 fn copy_port(port: &Port) -> Port
     ensures { result ≡ port.now }
 {
