@@ -193,7 +193,7 @@ fn has_left(done: io::Result<()>) -> bool {
 }
 
 // Writes a number, on a line of its own, to descriptor 3, where it is open for writing. It is opened anew, to append to what a file has,
-// and for reading too: a pipe that nobody reads would else keep the program waiting.
+// and for reading too: a named pipe that nobody reads would else keep the program waiting.
 fn tell(rt: HostRuntime, n: u64) -> io::Result<()> {
     // by the link's own mode, which is how the descriptor is open
     if fs::symlink_metadata(&rt, TOLD)?.permissions().mode() & 0o200 == 0 {
