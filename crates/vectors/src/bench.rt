@@ -1,5 +1,5 @@
 // The board that the lines of a script go on with, and its page.
-ghost use Rattle.std.specs.Prelude.{◌≤◌};
+ghost use Rattle.std.specs.Prelude.{◌≡◌, ◌≤◌};
 
 use crate::output::Output;
 use crate::text::MOST;
@@ -51,25 +51,34 @@ impl Bench {
         Bench::on(board, bytes, self.length)
     }
 
+    fn copy(&self) -> Self {
+        Bench::on(copy_board(&self.board), self.bytes, self.length)
+    }
+
     pub(crate) fn with_settings(self, settings: Settings) -> Self {
+        let bytes = self.bytes;
+        let length = self.length;
         let board = self.board;
         let first = board.first;
         let second = board.second;
         let readonly = board.readonly;
         let tally0 = board.tally0;
         let tally1 = board.tally1;
-        self.with_board(Board {
+        let next = Board {
             first,
             second,
             settings,
             readonly,
             tally0,
             tally1,
-        })
+        };
+        Bench::on(next, bytes, length)
     }
 
     // Port 0, or the other one, and its totals.
     pub(crate) fn with_port(self, number: u8, port: Port, tally: Tally) -> Self {
+        let bytes = self.bytes;
+        let length = self.length;
         let board = self.board;
         let settings = board.settings;
         let first = board.first;
@@ -78,27 +87,29 @@ impl Bench {
         let tally0 = board.tally0;
         let tally1 = board.tally1;
         if number == 0 {
-            return self.with_board(Board {
+            let next = Board {
                 first: port,
                 second,
                 settings,
                 readonly,
                 tally0: tally,
                 tally1,
-            });
+            };
+            return Bench::on(next, bytes, length);
         }
-        self.with_board(Board {
+        let next = Board {
             first,
             second: port,
             settings,
             readonly,
             tally0,
             tally1: tally,
-        })
+        };
+        Bench::on(next, bytes, length)
     }
 
-    pub(crate) fn tally(self, number: u8) -> Tally {
-        let board = self.board;
+    pub(crate) fn tally(&self, number: u8) -> Tally {
+        let board = &self.board;
         if number == 0 {
             board.tally0
         } else {
@@ -106,40 +117,40 @@ impl Bench {
         }
     }
 
-    pub(crate) fn port(self, number: u8) -> Port {
-        let board = self.board;
+    pub(crate) fn port(&self, number: u8) -> Port {
+        let board = &self.board;
         if number == 0 {
-            board.first
+            copy_port(&board.first)
         } else {
-            board.second
+            copy_port(&board.second)
         }
     }
 
     // Feeds a chunk to a port as if `room` ended after `n` bytes.
-    pub(crate) fn feed(self, port: u8, chunk: &[u8], room: &mut [u8], n: usize) -> FeedStep {
+    pub(crate) fn feed(&self, port: u8, chunk: &[u8], room: &mut [u8], n: usize) -> FeedStep {
         self.call(port, false, chunk, room, n)
     }
 
     // Says that a port's line has gone quiet, with such a room.
-    pub(crate) fn silence(self, port: u8, room: &mut [u8], n: usize) -> FeedStep {
+    pub(crate) fn silence(&self, port: u8, room: &mut [u8], n: usize) -> FeedStep {
         self.call(port, true, b"", room, n)
     }
 
     // A feed, or with `quiet` a silence.
-    fn call(self, port: u8, quiet: bool, chunk: &[u8], room: &mut [u8], n: usize) -> FeedStep {
+    fn call(&self, port: u8, quiet: bool, chunk: &[u8], room: &mut [u8], n: usize) -> FeedStep {
         let mut bytes = self.bytes;
-        let board = self.board;
+        let board = copy_board(&self.board);
         let length = self.length;
         let fed = call_parts(port, board, quiet, chunk, room, n, &mut bytes, length);
-        let after = fed.board;
+        let after = copy_board(&fed.board);
         let bench = Bench::on(after, bytes, length);
         FeedStep { fed, bench }
     }
 
     // Whether a driver's record of the port, updated from what a call answered, has the totals that the board has after it.
-    pub(crate) fn agrees_in_record(self, port: u8, step: FeedStep) -> bool {
-        let fed = step.fed;
-        let after = step.bench;
+    pub(crate) fn agrees_in_record(&self, port: u8, step: &FeedStep) -> bool {
+        let fed = &step.fed;
+        let after = &step.bench;
         let before = self.port(port);
         let left = after.port(port);
         let kept = self.tally(port);
@@ -156,11 +167,11 @@ impl Bench {
 
     // Whether a call in place answers and leaves what the call by value did, which gave `step` and left `room`.
     pub(crate) fn agrees_in_place(
-        self,
+        &self,
         port: u8,
         quiet: bool,
         chunk: &[u8],
-        step: FeedStep,
+        step: &FeedStep,
         room: &[u8],
     ) -> bool {
         let named = self.port(port);
@@ -179,9 +190,9 @@ impl Bench {
             n,
             &mut page,
         );
-        let after = step.bench;
+        let after = &step.bench;
         let left = after.port(port);
-        same_answer(s, step.fed, left.held)
+        same_answer(s, &step.fed, left.held)
             && tallies::same(tallies::tally_of(totals), after.tally(port))
             && text::same(&array, &left.bytes)
             && text::same(text::prefix(&replies, n), room)
@@ -190,7 +201,7 @@ impl Bench {
 
     // A call in place, with a room that ends after `n` bytes. A silence that is given no chunk has a call of its own.
     fn call_in_place(
-        self,
+        &self,
         port: u8,
         quiet: bool,
         totals: &mut [u64],
@@ -200,11 +211,11 @@ impl Bench {
         n: usize,
         page: &mut [u8],
     ) -> Stepped {
-        let board = self.board;
+        let board = &self.board;
         let w = board.settings;
         let readonly = board.readonly;
-        let one = board.first;
-        let two = board.second;
+        let one = &board.first;
+        let two = &board.second;
         let first = one.held;
         let second = two.held;
         let r = within(n, room.len());
@@ -223,16 +234,15 @@ impl Bench {
 
     // Feeds a message to a port as if it held nothing. Both ports stay as they are: only the settings, the port's totals and the page go on.
     pub(crate) fn feed_alone(
-        self,
+        &self,
         port: u8,
         message: &[u8],
         room: &mut [u8],
         n: usize,
     ) -> FeedStep {
         let tally = self.tally(port);
-        let step = self
-            .with_port(port, Port::new(), tally)
-            .feed(port, message, room, n);
+        let alone = self.copy().with_port(port, Port::new(), tally);
+        let step = alone.feed(port, message, room, n);
         let fed = step.fed;
         let after = step.bench;
         let held = self.port(port);
@@ -242,25 +252,48 @@ impl Bench {
     }
 
     // A new board on the page as it stands, in the profile of this one.
-    pub(crate) fn started(self) -> Started {
-        let board = self.board;
+    pub(crate) fn started(&self) -> Started {
+        let board = &self.board;
         board::start(board.readonly, text::prefix(&self.bytes, self.length))
     }
 
-    pub(crate) fn same_page(self, other: Bench) -> bool {
+    pub(crate) fn same_page(&self, other: &Bench) -> bool {
         text::same(&self.bytes, &other.bytes)
     }
 
     // Only where it has changed.
-    pub(crate) fn say_page(self, before: Bench, out: Output) -> Output {
+    pub(crate) fn say_page(&self, before: &Bench, out: Output) -> Output {
         if self.same_page(before) {
             return out;
         }
         self.say_whole_page(out.text(b", page "))
     }
 
-    pub(crate) fn say_whole_page(self, out: Output) -> Output {
+    pub(crate) fn say_whole_page(&self, out: Output) -> Output {
         out.bytes(text::prefix(&self.bytes, self.length))
+    }
+}
+
+// A port and a board are moved where they are passed on: a second one is made by name.
+fn copy_port(port: &Port) -> Port
+    ensures { result ≡ port.now }
+{
+    Port {
+        bytes: port.bytes,
+        held: port.held,
+    }
+}
+
+fn copy_board(board: &Board) -> Board
+    ensures { result ≡ board.now }
+{
+    Board {
+        first: copy_port(&board.first),
+        second: copy_port(&board.second),
+        settings: board.settings,
+        readonly: board.readonly,
+        tally0: board.tally0,
+        tally1: board.tally1,
     }
 }
 
@@ -304,8 +337,8 @@ fn within(n: usize, length: usize) -> usize
     if n < length { n } else { length }
 }
 
-fn same_answer(s: Stepped, fed: Fed, held: usize) -> bool {
-    let board = fed.board;
+fn same_answer(s: Stepped, fed: &Fed, held: usize) -> bool {
+    let board = &fed.board;
     s.number == fed.number
         && s.taken == fed.taken
         && s.skipped == fed.skipped

@@ -19,19 +19,15 @@ pub(crate) fn outcome(verb: &[u8], args: &[u8], bench: Bench, out: Output) -> To
         return restart(bench, out);
     }
     if text::same(verb, b"arrays") {
-        return Told {
-            bench,
-            out: start_arrays(args, bench, out),
-        };
+        let told = start_arrays(args, &bench, out);
+        return Told { bench, out: told };
     }
     if text::same(verb, b"lend") {
         return lend(args, bench, out);
     }
     if text::same(verb, b"lent") {
-        return Told {
-            bench,
-            out: bench.say_whole_page(out),
-        };
+        let told = bench.say_whole_page(out);
+        return Told { bench, out: told };
     }
     if text::same(verb, b"handle") {
         return handle(0, args, bench, out);
@@ -51,15 +47,16 @@ fn start(readonly: bool, args: &[u8], bench: Bench, out: Output) -> Told {
         return bench::bad_line(bench, out);
     };
     let started = board::start(readonly, text::prefix(&bytes, n));
+    let told = say_started(&started, out);
     let board = started.board;
     Told {
         bench: Bench::on(board, bytes, n),
-        out: say_started(started, out),
+        out: told,
     }
 }
 
-fn say_started(started: Started, out: Output) -> Output {
-    let board = started.board;
+fn say_started(started: &Started, out: Output) -> Output {
+    let board = &started.board;
     let settings = board.settings;
     say_start(started.number, settings, board.readonly, out)
 }
@@ -76,10 +73,11 @@ fn say_start(number: u8, settings: Settings, readonly: bool, out: Output) -> Out
 
 fn restart(bench: Bench, out: Output) -> Told {
     let started = bench.started();
+    let told = say_started(&started, out);
     let board = started.board;
     Told {
         bench: bench.with_board(board),
-        out: say_started(started, out),
+        out: told,
     }
 }
 
@@ -98,7 +96,7 @@ fn lend(args: &[u8], bench: Bench, out: Output) -> Told {
 }
 
 // A start in place on two arrays of EE, in the profile of the board: the number, the settings, and both arrays afterwards.
-fn start_arrays(args: &[u8], bench: Bench, out: Output) -> Output {
+fn start_arrays(args: &[u8], bench: &Bench, out: Output) -> Output {
     let rest = text::other_words(args);
     let Number::Value(n) = text::read_decimal(text::first_word(args)) else {
         return out.bad_line();
@@ -118,7 +116,7 @@ fn start_arrays(args: &[u8], bench: Bench, out: Output) -> Output {
     }
     let mut first = [0xEEu8; MOST];
     let mut second = [0xEEu8; MOST];
-    let board = bench.board;
+    let board = &bench.board;
     let started = bench::start_parts(
         board.readonly,
         &mut first,
@@ -152,10 +150,11 @@ fn handle(port: u8, args: &[u8], bench: Bench, out: Output) -> Told {
     let step = bench.feed_alone(port, text::prefix(&message, n), &mut room, Port::REPLY);
     let fed = step.fed;
     let after = step.bench;
-    let told = say_handled(fed, &room, out);
+    let told = say_handled(&fed, &room, out);
+    let said = after.say_page(&bench, told);
     Told {
         bench: after,
-        out: after.say_page(bench, told),
+        out: said,
     }
 }
 
@@ -185,8 +184,8 @@ fn handle_within(args: &[u8], bench: Bench, out: Output) -> Told {
 }
 
 // Byte 3 of a reply is its payload's length, byte 7 the error of its first row. Where nothing is answered there is no reply.
-fn say_handled(fed: Fed, room: &[u8; 166], out: Output) -> Output {
-    let board = fed.board;
+fn say_handled(fed: &Fed, room: &[u8; 166], out: Output) -> Output {
+    let board = &fed.board;
     let settings = board.settings;
     let told = out.decimal(fed.number as u64);
     if fed.number != 0 {

@@ -1,5 +1,5 @@
 // The verbs on a board that is fed: feed, silence, held, settings, port.
-use crate::bench::{Bench, FeedStep, Told};
+use crate::bench::{Bench, Told};
 use crate::output::Output;
 use crate::text::{MOST, Number, Octet};
 use crate::{bench, tallies, text};
@@ -62,9 +62,11 @@ fn feed(args: &[u8], bench: Bench, out: Output) -> Told {
     let mut room = [0xEEu8; MOST];
     let step = bench.feed(port, s, &mut room, length);
     let replies = text::prefix(&room, length);
-    let same = bench.agrees_in_place(port, false, s, step, replies);
-    let told = say_step(step, replies, same, bench, out);
-    say_counted(told, bench.agrees_in_record(port, step), step.fed, replies)
+    let same = bench.agrees_in_place(port, false, s, &step, replies);
+    let counted = bench.agrees_in_record(port, &step);
+    let fed = step.fed;
+    let told = say_step(&fed, step.bench, replies, same, &bench, out);
+    say_counted(told, counted, &fed, replies)
 }
 
 fn silence(args: &[u8], bench: Bench, out: Output) -> Told {
@@ -75,16 +77,17 @@ fn silence(args: &[u8], bench: Bench, out: Output) -> Told {
     let mut room = [0xEEu8; MOST];
     let step = bench.silence(port, &mut room, length);
     let replies = text::prefix(&room, length);
-    let same = bench.agrees_in_place(port, true, b"", step, replies)
-        && bench.agrees_in_place(port, true, &UNREAD, step, replies);
-    let told = say_step(step, replies, same, bench, out);
-    say_counted(told, bench.agrees_in_record(port, step), step.fed, replies)
+    let same = bench.agrees_in_place(port, true, b"", &step, replies)
+        && bench.agrees_in_place(port, true, &UNREAD, &step, replies);
+    let counted = bench.agrees_in_record(port, &step);
+    let fed = step.fed;
+    let told = say_step(&fed, step.bench, replies, same, &bench, out);
+    say_counted(told, counted, &fed, replies)
 }
 
 // Where the calls in place agree, nothing is said of them.
-fn say_step(step: FeedStep, room: &[u8], same: bool, before: Bench, out: Output) -> Told {
-    let after = step.bench;
-    let answer = say_fed(step.fed, out).text(b", room ").bytes(room);
+fn say_step(fed: &Fed, after: Bench, room: &[u8], same: bool, before: &Bench, out: Output) -> Told {
+    let answer = say_fed(fed, out).text(b", room ").bytes(room);
     let told = after.say_page(before, answer);
     Told {
         bench: after,
@@ -97,7 +100,7 @@ fn say_step(step: FeedStep, room: &[u8], same: bool, before: Bench, out: Output)
 }
 
 // Where a driver's record agrees, and the error told is the first in the reply, nothing is said of them.
-fn say_counted(step: Told, same: bool, fed: Fed, room: &[u8]) -> Told {
+fn say_counted(step: Told, same: bool, fed: &Fed, room: &[u8]) -> Told {
     let bench = step.bench;
     let out = step.out;
     let told = if same {
@@ -123,8 +126,8 @@ fn first_error(number: u8, room: &[u8]) -> u8 {
     if room.len() < 8 { 0 } else { room[7] }
 }
 
-fn say_fed(fed: Fed, out: Output) -> Output {
-    let board = fed.board;
+fn say_fed(fed: &Fed, out: Output) -> Output {
+    let board = &fed.board;
     let told = out
         .decimal(fed.number as u64)
         .text(b", taken ")
@@ -134,10 +137,10 @@ fn say_fed(fed: Fed, out: Output) -> Output {
     say_board(board, bench::say_saved(fed.saved, told))
 }
 
-fn say_board(board: Board, out: Output) -> Output {
+fn say_board(board: &Board, out: Output) -> Output {
     let settings = board.settings;
-    let first = board.first;
-    let second = board.second;
+    let first = &board.first;
+    let second = &board.second;
     bench::say_settings(settings, out)
         .text(b", held ")
         .decimal(first.held as u64)

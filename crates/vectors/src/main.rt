@@ -1,5 +1,7 @@
 // Reads a script of test vectors from standard input, runs each line through the library's calls, and prints the line
 // with what came of it.
+#![tactic(auto)]
+
 mod bench;
 mod boards;
 mod commands;
@@ -15,7 +17,9 @@ mod streams;
 mod tallies;
 mod text;
 
-fn main() {
-    let mut block = io::large_buffer();
-    script::run(&mut block);
+use std::process::ExitCode;
+
+fn main(rt: HostRuntime) -> ExitCode {
+    let mut block = [0u8; 65536];
+    script::run(rt, &mut block)
 }

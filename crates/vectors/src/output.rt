@@ -1,27 +1,43 @@
 // What the program prints, gathered in a block that is written when it is full.
 ghost use Rattle.std.specs.Prelude.{◌≡◌, ◌+◌, ◌<◌, ◌≤◌, length};
 
-use crate::text::prefix;
+use crate::text::{find, prefix};
+use listing::LONGEST_TOTAL;
+use std::fs::OpenOptions;
+use std::os::unix::fs::PermissionsExt;
+use std::process::ExitCode;
+use std::{fs, io};
+
+// The exit status where whoever reads the output has left.
+const READER_LEFT: u8 = 141;
+
+// Descriptor 3 as a file.
+const TOLD: &str = "/proc/self/fd/3";
 
 // Taken by value and returned, so that a line reads as a chain of its parts.
 #[derive(Drop)]
 pub struct Output {
+    rt: HostRuntime,
     block: [u8; 512],
     used: usize,
     // whether all that was to be written until now has been
     pub written: bool,
+    // where a write failed, whether that was since nobody reads what is written any more
+    reader_left: bool,
     // how many lines were not as they should be
     pub faults: u64,
 }
 
 impl Output {
-    pub(crate) fn new() -> Self
+    pub(crate) fn new(rt: HostRuntime) -> Self
         ensures { result.used ≡ 0 }
     {
         Output {
+            rt,
             block: [0u8; 512],
             used: 0,
             written: true,
+            reader_left: false,
             faults: 0,
         }
     }
@@ -30,31 +46,42 @@ impl Output {
     fn flush(self) -> Self
         ensures { result.used ≡ 0 }
     {
-        let mut out = Output::new();
+        let mut out = Output::new(self.rt);
         out.faults = self.faults;
         out.written = self.written;
+        out.reader_left = self.reader_left;
         if out.written {
-            out.written = io::write_all(1, prefix(&self.block, self.used));
+            let done = self.rt.write_all(prefix(&self.block, self.used));
+            out.written = done.is_ok();
+            out.reader_left = has_left(done);
         }
         out
     }
 
-    // Writes what is left. A program has no exit status: where all was written, and only then, descriptor 3 is told how many lines
-    // were not as they should be. bin/vectors learns from it that the script was run to its end.
-    pub(crate) fn finish(self) {
+    // Writes what is left. Where all was written, and only then, descriptor 3 is told how many lines were not as they should be.
+    // bin/vectors learns from it that the script was run to its end, and not from the exit status, which is 0. But where whoever reads the
+    // output has left, nothing is said, and the status is 141, as that of other programs, which SIGPIPE ends.
+    pub(crate) fn finish(self) -> ExitCode {
         let done = self.flush();
-        if !done.written {
-            io::write_all(2, b"vectors: standard output could not be written\n");
-            return;
+        if done.written {
+            let _ = tell(done.rt, done.faults);
+            return ExitCode::SUCCESS;
         }
-        io::print_decimal(3, done.faults);
-        io::write_all(3, b"\n");
+        done.say(b"vectors: standard output could not be written\n")
     }
 
     // Writes what is left, and says why the script ends here.
-    pub(crate) fn stop(self, why: &[u8]) {
-        self.flush();
-        io::write_all(2, why);
+    pub(crate) fn stop(self, why: &[u8]) -> ExitCode {
+        self.flush().say(why)
+    }
+
+    // Says what went wrong on standard error. Where that cannot be written either, what descriptor 3 is not told says it.
+    fn say(self, why: &[u8]) -> ExitCode {
+        if self.reader_left {
+            return ExitCode::from(READER_LEFT);
+        }
+        let _ = self.rt.stderr().write_all(why);
+        ExitCode::SUCCESS
     }
 
     fn with_room(self) -> Self
@@ -113,9 +140,9 @@ impl Output {
     }
 
     pub(crate) fn decimal(self, n: u64) -> Self {
-        let mut digits = [0u8; 20];
-        let k = io::decimal(n, &mut digits);
-        self.text(&digits[..k])
+        let mut line = [0u8; LONGEST_TOTAL];
+        listing::write_total(n, &mut line);
+        self.text(prefix(&line, find(&line, b'\n', 0)))
     }
 
     // Two digits, in upper case.
@@ -155,6 +182,27 @@ impl Output {
         }
         out
     }
+}
+
+// Did a write fail since nobody reads any more?
+fn has_left(done: io::Result<()>) -> bool {
+    match done {
+        Ok(()) => false,
+        Err(e) => e.kind() == io::ErrorKind::BrokenPipe,
+    }
+}
+
+// Writes a number, on a line of its own, to descriptor 3, where it is open for writing. It is opened anew, to append to what a file has,
+// and for reading too: a named pipe that nobody reads would else keep the program waiting.
+fn tell(rt: HostRuntime, n: u64) -> io::Result<()> {
+    // by the link's own mode, which is how the descriptor is open
+    if fs::symlink_metadata(&rt, TOLD)?.permissions().mode() & 0o200 == 0 {
+        return Ok(());
+    }
+    let mut line = [0u8; LONGEST_TOTAL];
+    let written = listing::write_total(n, &mut line);
+    let mut told = OpenOptions::new().read(true).append(true).open(&rt, TOLD)?;
+    io::Write::write_all(&mut told, prefix(&line, written.length))
 }
 
 fn digit(d: u8) -> u8

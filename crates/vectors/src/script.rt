@@ -4,35 +4,35 @@ ghost use Rattle.std.specs.Prelude.{◌+◌, ◌≤◌, length};
 use crate::bench::{Bench, Told};
 use crate::output::Output;
 use crate::{boards, text};
+use std::io;
+use std::process::ExitCode;
 
 // A loop that reads has to end: more reads than a script takes.
 const READS: u64 = 0x1_0000_0000;
 
 // `block` has to have room for the longest line and its end.
-pub(crate) fn run(block: &mut [u8]) {
+pub(crate) fn run(rt: HostRuntime, block: &mut [u8]) -> ExitCode {
     let mut bench = Bench::blank();
-    let mut out = Output::new();
+    let mut out = Output::new(rt);
     let mut kept = 0;
     let mut turn = 0;
     while turn < READS {
-        let read = read_behind(block, kept, out.written);
+        let read = read_behind(rt, block, kept, out.written);
         let n = read.end;
         if n == kept {
-            finish(text::prefix(block, kept), read.failed, bench, out);
-            return;
+            return finish(text::prefix(block, kept), read.failed, bench, out);
         }
         let whole = end_of_lines(block, n);
         kept = n - whole;
         if kept == block.len() {
-            out.stop(b"vectors: a line is too long\n");
-            return;
+            return out.stop(b"vectors: a line is too long\n");
         }
         let told = run_block(block, whole, kept, bench, out);
         bench = told.bench;
         out = told.out;
         turn += 1;
     }
-    out.stop(b"vectors: the script is too long\n");
+    out.stop(b"vectors: the script is too long\n")
 }
 
 // What a read gave: where its bytes end in the block. One that failed gave none.
@@ -43,7 +43,7 @@ pub struct Read {
 }
 
 // Reads on behind the first `kept` bytes. Where a write has failed, the script ends here.
-fn read_behind(block: &mut [u8], kept: usize, written: bool) -> Read
+fn read_behind(rt: HostRuntime, block: &mut [u8], kept: usize, written: bool) -> Read
     requires { kept ≤ length block.old }
     ensures { (kept ≤ result.end) × (result.end ≤ length block.new) }
 {
@@ -53,20 +53,22 @@ fn read_behind(block: &mut [u8], kept: usize, written: bool) -> Read
             failed: false,
         };
     }
-    let read = read_once(&mut block[kept..]);
+    let read = read_once(rt, &mut block[kept..]);
     Read {
         end: kept + read.end,
         failed: read.failed,
     }
 }
 
-fn read_once(block: &mut [u8]) -> Read
+fn read_once(rt: HostRuntime, block: &mut [u8]) -> Read
     ensures { result.end ≤ length block.new }
 {
-    let got = libc::read(0, block);
-    Read {
-        end: io::count(got, block),
-        failed: got < 0,
+    match io::Read::read(&mut rt.stdin(), block) {
+        Ok(end) => Read { end, failed: false },
+        Err(_) => Read {
+            end: 0,
+            failed: true,
+        },
     }
 }
 
@@ -107,13 +109,12 @@ fn move_front(block: &mut [u8], from: usize, n: usize)
 }
 
 // The last line may have no end.
-fn finish(line: &[u8], failed: bool, bench: Bench, out: Output) {
+fn finish(line: &[u8], failed: bool, bench: Bench, out: Output) -> ExitCode {
     if failed {
-        out.stop(b"vectors: the script could not be read\n");
-        return;
+        return out.stop(b"vectors: the script could not be read\n");
     }
     let told = run_lines(line, bench, out);
-    told.out.finish();
+    told.out.finish()
 }
 
 fn run_lines(lines: &[u8], start: Bench, before: Output) -> Told {

@@ -9,7 +9,7 @@ use board::{Fed, Port};
 const TURNS: usize = 2 * MOST + 2;
 
 // How far the stream is fed to one port, and what has come of it.
-#[derive(Drop)]
+#[derive(Clone, Copy)]
 struct Track {
     // the bytes of a piece; 0 where the port is not fed
     size: usize,
@@ -53,11 +53,11 @@ fn stream(args: &[u8], out: Output) -> Output {
     };
     let s = text::prefix(&room, n);
     let whole = feed_pieces(s, MOST, 0);
-    say_sizes(s, whole, say_replies(s, say_run(whole, out)))
+    say_sizes(s, &whole, say_replies(s, say_run(&whole, out)))
 }
 
-fn say_run(run: Run, out: Output) -> Output {
-    let bench = run.bench;
+fn say_run(run: &Run, out: Output) -> Output {
+    let bench = &run.bench;
     let track = run.first;
     let port = bench.port(0);
     out.decimal(track.messages as u64)
@@ -101,7 +101,7 @@ fn length_with(n: u8) -> usize {
 }
 
 // Ends at the first size that changes what a port gives.
-fn say_sizes(s: &[u8], whole: Run, out: Output) -> Output {
+fn say_sizes(s: &[u8], whole: &Run, out: Output) -> Output {
     let mut k = 0;
     while k < 8 {
         let size = piece_size(k);
@@ -128,50 +128,50 @@ fn piece_size(k: usize) -> usize {
 
 // Each port alone gives what the whole stream gave, and leaves the other fresh. With both in turn the settings are shared,
 // and so is what a reply reports of them: the counts are the same, and type, echo and error of each reply's first row.
-fn size_agrees(s: &[u8], whole: Run, size: usize, other: usize) -> bool {
+fn size_agrees(s: &[u8], whole: &Run, size: usize, other: usize) -> bool {
     let track = whole.first;
-    let bench = whole.bench;
+    let bench = &whole.bench;
     let held = bench.port(0);
     let fresh = bench.port(1);
     let first = feed_pieces(s, size, 0);
     let second = feed_pieces(s, 0, size);
     let both = feed_pieces(s, size, other);
-    all_agree(first, 0, track, bench)
-        && all_agree(second, 1, track, bench)
-        && same_port(first.bench.port(1), fresh)
-        && same_port(second.bench.port(0), fresh)
-        && counts_agree(both, 0, track, held)
-        && counts_agree(both, 1, track, held)
+    all_agree(&first, 0, track, bench)
+        && all_agree(&second, 1, track, bench)
+        && same_port(&first.bench.port(1), &fresh)
+        && same_port(&second.bench.port(0), &fresh)
+        && counts_agree(&both, 0, track, &held)
+        && counts_agree(&both, 1, track, &held)
 }
 
 impl Run {
-    fn track(self, port: u8) -> Track {
+    fn track(&self, port: u8) -> Track {
         if port == 0 { self.first } else { self.second }
     }
 }
 
-fn counts_agree(run: Run, port: u8, track: Track, held: Port) -> bool {
-    let bench = run.bench;
+fn counts_agree(run: &Run, port: u8, track: Track, held: &Port) -> bool {
+    let bench = &run.bench;
     let t = run.track(port);
     t.taken == track.taken
         && t.messages == track.messages
         && t.skipped == track.skipped
         && t.marks == track.marks
-        && same_port(bench.port(port), held)
+        && same_port(&bench.port(port), held)
 }
 
-fn all_agree(run: Run, port: u8, track: Track, after: Bench) -> bool {
-    let bench = run.bench;
-    let board = bench.board;
-    let other = after.board;
+fn all_agree(run: &Run, port: u8, track: Track, after: &Bench) -> bool {
+    let bench = &run.bench;
+    let board = &bench.board;
+    let other = &after.board;
     let t = run.track(port);
-    counts_agree(run, port, track, after.port(0))
+    counts_agree(run, port, track, &after.port(0))
         && t.replies == track.replies
         && bench::same_settings(board.settings, other.settings)
         && bench.same_page(after)
 }
 
-fn same_port(a: Port, b: Port) -> bool {
+fn same_port(a: &Port, b: &Port) -> bool {
     a.held == b.held && text::same(&a.bytes, &b.bytes)
 }
 
@@ -212,7 +212,7 @@ fn advance(bench: Bench, port: u8, track: Track, s: &[u8]) -> Stand {
     let after = step.bench;
     Stand {
         bench: after,
-        track: track.after(fed, &room, s.len()),
+        track: track.after(&fed, &room, s.len()),
     }
 }
 
@@ -230,7 +230,7 @@ impl Track {
         }
     }
 
-    fn after(self, fed: Fed, room: &[u8; 166], length: usize) -> Self {
+    fn after(self, fed: &Fed, room: &[u8; 166], length: usize) -> Self {
         let mut next = self;
         next.taken = std::num::wrapping_add_usize(self.taken, fed.taken);
         next.skipped = std::num::wrapping_add_usize(self.skipped, fed.skipped);
