@@ -10,6 +10,7 @@ pub mod Pages
 pub mod Payloads
 pub mod Places
 pub mod ReadOnly
+pub mod Refusals
 pub mod Rests
 pub mod Rows
 pub mod Separate

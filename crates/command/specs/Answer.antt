@@ -1,5 +1,5 @@
 -- Document 01, "Handling one message", on the board: the answer to a message, with the reply room and the page afterwards.
-use Rattle.std.specs.Prelude.{Bool, true, false, List, ℕ, ltb, length, get_or, take}
+use Rattle.std.specs.Prelude.{Bool, true, false, ◌||◌, not, List, [], ℕ, eqb, ltb, length, get_or, take}
 use Rattle.word.specs.Word.{number}
 use Rattle.page.specs.declared.setting.Setting.{Setting}
 use Rattle.page.specs.declared.setting.Setting.TheVariants.{Baud, Accelerometer, Gyroscope}
@@ -9,12 +9,16 @@ use Rattle.page.specs.Page.{with_key, factory_page}
 use Rattle.page.specs.Lookup.{body_of, values_in}
 use Rattle.page.specs.Loading.{if_usable}
 use Rattle.page.specs.Sound.{page_writing}
+use Rattle.message.specs.Message.{message_of}
+use Rattle.message.specs.Whole.{refuse}
 use Rattle.message.specs.Write.{done_writing}
 use Rattle.command.specs.declared.rights.Rights.{Rights}
 use Rattle.command.specs.declared.settings.Settings.{Settings}
 use Rattle.command.specs.declared.answer.Answer.{Answer}
+use Rattle.command.specs.Errors.{is_kind}
+use Rattle.command.specs.Numbers.{numbered_kind}
 use Rattle.command.specs.Effects.{start_settings}
-use Rattle.command.specs.Outcome.{Access, Outcome, Received, reply_of, error_in}
+use Rattle.command.specs.Outcome.{Access, Outcome, Received, reply_of, reply_row, error_in}
 use Rattle.command.specs.Handle.{message_outcome}
 
 -- The value in a body: its four bytes, or its one.
@@ -81,3 +85,31 @@ answer_on false kind o w room page = answer_with kind o room
 unfoldable pub answering : Rights → Received → Settings → List ℕ → List ℕ → Answering
 answering rights m w room page =
     answer_on (ltb (length room) reply_room) m.kind (message_outcome page_access rights (record { settings = w; page = page }) m) w room page
+
+-- ---- a message that is refused by its sums and its type alone
+
+-- 1: sums wrong. 2: type neither 01 nor 02, nor 7C. 0: the rest of the message decides.
+unfoldable pub opening_error : Bool → ℕ → ℕ
+opening_error good kind =
+    refuse (not good) 1
+    (refuse (not (is_kind kind || eqb kind numbered_kind)) 2
+    0)
+
+-- What answering it gives: the answer, and the room afterwards. The page stays as it is.
+pub record Refusing : Type 0 where
+  pub answer : Answer
+  pub room : List ℕ
+
+-- The reply is one row, and in a smaller room the message is not handled.
+abbrev pub refusing_on : Bool → ℕ → ℕ → ℕ → Settings → List ℕ → Refusing
+refusing_on true kind echo error w room = record { answer = record { saved = false; error = 0; settings = w }; room = room }
+refusing_on false kind echo error w room =
+    record {
+      answer = record { saved = false; error = error; settings = w };
+      room = (done_writing (message_of kind (reply_row echo error [])) room).room;
+    }
+
+-- This is `answering` where `error` is the message's `opening_error` and not 0, and `echo` its first payload byte. Proof: Refusals
+-- `refused_answering`.
+unfoldable pub refusing : ℕ → ℕ → ℕ → Settings → List ℕ → Refusing
+refusing kind echo error w room = refusing_on (ltb (length room) reply_room) kind echo error w room

@@ -8,10 +8,12 @@ mod errors;
 mod fields;
 mod number;
 mod place;
+mod refused;
 mod rights;
 mod settings;
 
 pub use answer::{Answer, answer_over};
 pub use command::{Command, Subject, subject_of};
+pub use refused::{answer_refused, opening_error};
 pub use rights::Rights;
 pub use settings::{Settings, settings_from, settings_usable};

@@ -1,3 +1,4 @@
+pub mod Blocks
 pub mod FieldRows
 pub mod Framed
 pub mod Fronts
