@@ -12,7 +12,7 @@ use std::fs;
 use std::path::{Path, PathBuf};
 use std::time::SystemTime;
 
-/// Where `rt staticlib` writes, from the repository's root.
+/// Where `bin/build capi` puts the archive, from the repository's root.
 const OWN: &str = "target/staticlib";
 
 /// The folder above that of this file.
@@ -34,9 +34,10 @@ fn folder(root: &Path) -> PathBuf {
 fn sources(root: &Path) -> Vec<PathBuf> {
     let list = root.join("crates.txt");
     let Ok(text) = fs::read_to_string(&list) else { return Vec::new() };
-    // A line such as "capi: board client  # the calls exported to C and Rust".
+    // A line such as "capi staticlib: board client  # the calls exported to C and Rust".
     let lines = text.lines().filter_map(|line| line.split('#').next()?.split_once(':'));
-    let uses = lines.filter(|(name, _)| name.trim() == "capi").flat_map(|(_, uses)| uses.split_whitespace());
+    let of_capi = lines.filter(|(name, _)| name.split_whitespace().next() == Some("capi"));
+    let uses = of_capi.flat_map(|(_, uses)| uses.split_whitespace());
     let crates = uses.chain(["capi"]).map(|name| root.join("crates").join(name));
     let folders = crates.flat_map(|folder| [folder.join("src"), folder.join("specs")]);
     folders.filter(|folder| folder.is_dir()).chain([list]).collect()
@@ -69,7 +70,7 @@ fn warn_of_newer(root: &Path, archive: &Path) {
     }
     if let Some(source) = newer_source(sources, archive) {
         println!(
-            "cargo::warning={} is newer than {}, which may not be of these sources: run `rt staticlib capi` at the \
+            "cargo::warning={} is newer than {}, which may not be of these sources: run `bin/build capi` at the \
              repository's root to prove and build it",
             source.strip_prefix(root).unwrap_or(&source).display(),
             archive.strip_prefix(root).unwrap_or(archive).display()
@@ -99,7 +100,7 @@ fn main() {
     println!("cargo::rerun-if-changed={}", archive.display());
     if !archive.is_file() {
         println!(
-            "cargo::error={} is missing: run `rt staticlib capi` at the repository's root, or name the folder of \
+            "cargo::error={} is missing: run `bin/build capi` at the repository's root, or name the folder of \
              libcapi.a in KETPHIROJ_LIB (a relative one is taken from the repository's root)",
             archive.display()
         );

@@ -3,7 +3,7 @@
 //! This is the only module with unsafe code. Its functions are safe: a slice is lent to the library as a pointer and a
 //! length for the time of the call, and the library's contracts hold for every input.
 //!
-//! What each call rests on: the archive that is linked is the one that `rt staticlib capi` writes, so the declarations
+//! What each call rests on: the archive that is linked is the one that `bin/build capi` writes, so the declarations
 //! below are those of its functions and records. It keeps no pointer, has no state of its own, ends, does not unwind,
 //! and touches no byte outside the slices that it is lent; Rattle proves that of every function. A `bool` in an answer
 //! is 0 or 1.

@@ -1,7 +1,7 @@
 //! A safe wrapper of the proved protocol library: an inertial board that speaks the MS CIP protocol on two serial
 //! ports.
 //!
-//! The library is written in Rattle and proved; `rt staticlib capi` writes it as a static library, and this crate links
+//! The library is written in Rattle and proved; `bin/build capi` writes it as a static library, and this crate links
 //! it. What each call answers is the paper's ("01", the board's protocol, line by line, with requests 01 to 06, 12 and
 //! 13 of the change requests), or for a call that the paper does not list what docs/DECISIONS.md says, for every input.
 //! Nothing here adds to it: refusals become the errors of [`Refusal`], the errors of a reply [`ReplyError`], numbers become enums,

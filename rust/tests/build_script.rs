@@ -1,9 +1,10 @@
 //! The build script in a repository of its own, with an archive that holds nothing: which archive is linked, and when cargo warns that
 //! it is older than its sources. Each build is one of cargo's, and what it says is looked at.
 
+use std::env;
 use std::fs::{self, File};
-use std::path::{Path, PathBuf};
-use std::process::Command;
+use std::path::PathBuf;
+use std::process::{self, Command};
 use std::time::{Duration, SystemTime};
 
 const MANIFEST: &str = "
@@ -18,7 +19,7 @@ links = \"capi\"
 const CRATES: &str = "word:  # numbers
 page: word
 lister: word  # a program, not in the archive
-capi: page word  # the calls
+capi staticlib: page word  # the calls
 ";
 
 /// The files of the library, and those that are not in the archive.
@@ -35,10 +36,8 @@ struct Repository {
 impl Repository {
     /// A fresh one: all its files, the archive too, are of one time, an hour ago.
     fn new(name: &str) -> Repository {
-        let root = Path::new(env!("CARGO_TARGET_TMPDIR")).join(name);
-        if root.exists() {
-            fs::remove_dir_all(&root).unwrap();
-        }
+        // Outside this repository: in it rt takes no other crates.txt, and no source of a crate that is not listed.
+        let root = env::temp_dir().join(format!("ketphiroj-{}-{name}", process::id()));
         let repository = Repository { root, made: SystemTime::now() };
         for file in SOURCES.into_iter().chain(OTHERS) {
             repository.write(file, if file == "crates.txt" { CRATES } else { "" });
@@ -72,7 +71,7 @@ impl Repository {
     /// Builds the crate from a folder of the repository, with KETPHIROJ_LIB if there is one. Gives whether it was built, and what
     /// cargo said.
     fn build(&self, from: &str, named: Option<&str>) -> (bool, String) {
-        let cargo = std::env::var_os("CARGO").unwrap_or_else(|| "cargo".into());
+        let cargo = env::var_os("CARGO").unwrap_or_else(|| "cargo".into());
         let mut command = Command::new(cargo);
         command.args(["build", "--offline", "--manifest-path"]).arg(self.root.join("rust/Cargo.toml"));
         command.current_dir(self.root.join(from)).env("CARGO_TARGET_DIR", self.root.join("built"));
@@ -92,8 +91,14 @@ impl Repository {
     /// It is built, with a warning that names this source, the archive and what mends it.
     fn builds_with_warning(&self, source: &str, named: Option<&str>) {
         let (built, said) = self.build("rust", named);
-        let told = [&format!("warning: ketphiroj@0.0.0: {source} is newer than {ARCHIVE}"), "`rt staticlib capi`"];
+        let told = [&format!("warning: ketphiroj@0.0.0: {source} is newer than {ARCHIVE}"), "`bin/build capi`"];
         assert!(built && told.iter().all(|text| said.contains(text)), "{source}: {said}");
+    }
+}
+
+impl Drop for Repository {
+    fn drop(&mut self) {
+        let _ = fs::remove_dir_all(&self.root);
     }
 }
 
@@ -154,6 +159,6 @@ fn relative_folder() {
     for (named, folder) in [(Some("beside"), "beside"), (None, "target/staticlib"), (Some(""), "target/staticlib")] {
         let (built, said) = repository.build("rust", named);
         let missing = format!("{} is missing", repository.root.join(folder).join("libcapi.a").display());
-        assert!(!built && said.contains(&missing) && said.contains("`rt staticlib capi`"), "{named:?}: {said}");
+        assert!(!built && said.contains(&missing) && said.contains("`bin/build capi`"), "{named:?}: {said}");
     }
 }

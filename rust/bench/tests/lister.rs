@@ -1,7 +1,7 @@
 //! The listing program against a plain reading of the paper: the recording in the repository, and files that are read in
 //! several pieces and whose listing fills several blocks.
 //!
-//! It runs `target/bin/lister`, which `rt check lister` builds.
+//! It runs `target/bin/lister`, which `bin/build lister` builds.
 
 #![forbid(unsafe_code)]
 
@@ -35,7 +35,7 @@ fn printed(command: &mut Command, input: &[u8]) -> String {
         .stdin(Stdio::piped())
         .stdout(Stdio::piped())
         .spawn()
-        .unwrap_or_else(|error| panic!("{}: {error}; rt check lister builds it", program.display()));
+        .unwrap_or_else(|error| panic!("{}: {error}; bin/build lister builds it", program.display()));
     let mut pipe = child.stdin.take().expect("a pipe");
     // Written by a thread of its own: the program prints before it has read all.
     thread::scope(|scope| {
