@@ -59,6 +59,7 @@ pub(crate) fn clear_from(bytes: &mut [u8], n: usize)
 }
 
 // Keeps the bytes from..to of those held and then the chunk, with zeros past them.
+#[inline(never)] // a feed takes less stack so (docs/DECISIONS.md)
 pub(crate) fn keep_part(bytes: &mut [u8], held: usize, chunk: &[u8], from: usize, to: usize)
     requires { (held ≤ 260) × (from ≤ to) × (to ≤ held + length chunk.now) × (to - from ≤ 260) × (length bytes.old ≡ 260) }
     ensures { bytes.new ≡ padded (take (to - from) (drop from (take held bytes.old ++ chunk.now))) }

@@ -68,6 +68,7 @@ fn first_byte(s: &[u8]) -> u8
 
 // The value of a setting in the body on the page if it has the entry, else the factory's value. No factory page is made for it: that
 // would be 64 bytes of stack. The page is handed on as a part, all of it, for the same reason as in page::check_page.
+#[inline(always)] // a feed takes less stack so (docs/DECISIONS.md)
 pub(crate) fn looked_up(page: &[u8], setting: Setting) -> u32
     ensures { (result ≡ looked_up page.now setting) × Fits setting result }
 {

@@ -95,8 +95,16 @@ pub fn seek_over(held: &[u8], chunk: &[u8], ended: bool) -> Sought
 pub fn seek_held(bytes: &[u8], held: usize, chunk: &[u8], ended: bool) -> Sought
     ensures { result ≡ seek (up_to (end_of ended) front) (take held bytes.now ++ chunk.now) }
 {
+    // one call, so that the compiler puts the whole seek here: with two it is a function of its own, and a feed takes more stack
+    seek_over(first_of(bytes, held), chunk, ended)
+}
+
+// The first `held` of `bytes`, all of them where there are fewer.
+fn first_of(bytes: &[u8], held: usize) -> &[u8]
+    ensures { result.now ≡ take held bytes.now }
+{
     if bytes.len() < held {
-        return seek_over(bytes, chunk, ended);
+        return bytes;
     }
-    seek_over(&bytes[0..held], chunk, ended)
+    &bytes[0..held]
 }
