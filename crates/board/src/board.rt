@@ -4,7 +4,7 @@ use command::Settings;
 use totals::Tally;
 
 #[repr(C)]
-#[derive(Drop)]
+#[derive(Clone, Copy)]
 pub struct Board {
     // port 0
     pub first: Port,
@@ -28,7 +28,7 @@ impl Board {
 
 // What starting answers.
 #[repr(C)]
-#[derive(Drop)]
+#[derive(Clone, Copy)]
 pub struct Started {
     // document 01's number
     pub number: u8,
@@ -36,7 +36,7 @@ pub struct Started {
 }
 
 // What a feed answers.
-#[derive(Drop)]
+#[derive(Clone, Copy)]
 pub struct Fed {
     // document 01's number
     pub number: u8,
