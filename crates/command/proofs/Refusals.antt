@@ -18,7 +18,7 @@ use Rattle.command.specs.Errors.{is_kind, command_error}
 use Rattle.command.specs.Numbers.{numbered_kind}
 use Rattle.command.specs.Outcome.{Received, received_of, State, reply_row}
 use Rattle.command.specs.Handle.{refused_outcome, command_outcome, numbered_outcome, message_outcome}
-use Rattle.command.specs.Answer.{page_access, reply_room, answer_on, answering, opening_error, refusing_on, refusing}
+use Rattle.command.specs.Answer.{page_access, reply_room, answer_on, answering, opening_error, refusing_by_type_on, refusing_by_type}
 use Rattle.command.proofs.Answers.{sealed_rows}
 
 -- ---- the error
@@ -45,14 +45,14 @@ module _ (good : Bool) (kind : ℕ) where
 -- ---- the answer
 
 module _ (kind echo error : ℕ) (w : Settings) (room : List ℕ) where
-  pub refused_small : length room < 166 → record { answer = record { saved = false; error = 0; settings = w }; room = room } ≡ refusing kind echo error w room
-  unfolding refusing
+  pub refused_small : length room < 166 → record { answer = record { saved = false; error = 0; settings = w }; room = room } ≡ refusing_by_type kind echo error w room
+  unfolding refusing_by_type
   refused_small h = rw (lt-ltb (length room) 166 h)
 
   pub refused_large : 166 ≤ length room → (mid after : List ℕ) (a : Written) → mid ≡ put_at 4 (reply_row echo error []) room
       → record { answer = a; room = after } ≡ sealing kind 4 mid
-      → record { answer = record { saved = false; error = error; settings = w }; room = after } ≡ refusing kind echo error w room
-  unfolding refusing
+      → record { answer = record { saved = false; error = error; settings = w }; room = after } ≡ refusing_by_type kind echo error w room
+  unfolding refusing_by_type
   refused_large h mid after a ms e =
       let s : (sealing kind 4 (put_at 4 (reply_row echo error []) room)).room ≡ (done_writing (message_of kind (reply_row echo error [])) room).room =
       sealed_rows kind (reply_row echo error []) room (omega arith) h in
@@ -80,17 +80,17 @@ refused_outcome_lem rights x m error es n = go m.good (is_kind m.kind) refl (eqb
 pub refused_answering : (rights : Rights) (m : Received) (w : Settings) (room page : List ℕ) (error : ℕ) → error ≡ opening_error m.good m.kind
     → (error ≡ 0 → ⊥)
     → record {
-      answer = (refusing m.kind (get_or m.payload 0 0) error w room).answer;
-      room = (refusing m.kind (get_or m.payload 0 0) error w room).room;
+      answer = (refusing_by_type m.kind (get_or m.payload 0 0) error w room).answer;
+      room = (refusing_by_type m.kind (get_or m.payload 0 0) error w room).room;
       page = page;
     }
     ≡ answering rights m w room page
-unfolding refusing answering message_of
+unfolding refusing_by_type answering message_of
 refused_answering rights m w room page error es n =
     rw (refused_outcome_lem rights (record { settings = w; page = page }) m error es n) (go (ltb (length room) reply_room))
   where
     go : (small : Bool)
-        → record { answer = (refusing_on small m.kind (get_or m.payload 0 0) error w room).answer; room = (refusing_on small m.kind (get_or m.payload 0 0) error w room).room; page = page }
+        → record { answer = (refusing_by_type_on small m.kind (get_or m.payload 0 0) error w room).answer; room = (refusing_by_type_on small m.kind (get_or m.payload 0 0) error w room).room; page = page }
         ≡ answer_on small m.kind (refused_outcome (get_or m.payload 0 0) error (record { settings = w; page = page })) w room page
     go true = refl
     go false = refl
@@ -99,8 +99,8 @@ refused_answering rights m w room page error es n =
 pub refused_front : (rights : Rights) (good : Bool) (u : List ℕ) (w : Settings) (room page : List ℕ) (error : ℕ) → error ≡ opening_error good (type_of u)
     → (error ≡ 0 → ⊥)
     → record {
-      answer = (refusing (type_of u) (get_or (payload_of u) 0 0) error w room).answer;
-      room = (refusing (type_of u) (get_or (payload_of u) 0 0) error w room).room;
+      answer = (refusing_by_type (type_of u) (get_or (payload_of u) 0 0) error w room).answer;
+      room = (refusing_by_type (type_of u) (get_or (payload_of u) 0 0) error w room).room;
       page = page;
     }
     ≡ answering rights (received_of good u) w room page

@@ -101,9 +101,9 @@ pub record Refusing : Type 0 where
   pub room : List ℕ
 
 -- The reply is one row, and in a smaller room the message is not handled.
-abbrev pub refusing_on : Bool → ℕ → ℕ → ℕ → Settings → List ℕ → Refusing
-refusing_on true kind echo error w room = record { answer = record { saved = false; error = 0; settings = w }; room = room }
-refusing_on false kind echo error w room =
+abbrev pub refusing_by_type_on : Bool → ℕ → ℕ → ℕ → Settings → List ℕ → Refusing
+refusing_by_type_on true kind echo error w room = record { answer = record { saved = false; error = 0; settings = w }; room = room }
+refusing_by_type_on false kind echo error w room =
     record {
       answer = record { saved = false; error = error; settings = w };
       room = (done_writing (message_of kind (reply_row echo error [])) room).room;
@@ -111,5 +111,5 @@ refusing_on false kind echo error w room =
 
 -- This is `answering` where `error` is the message's `opening_error` and not 0, and `echo` its first payload byte. Proof: Refusals
 -- `refused_answering`.
-unfoldable pub refusing : ℕ → ℕ → ℕ → Settings → List ℕ → Refusing
-refusing kind echo error w room = refusing_on (ltb (length room) reply_room) kind echo error w room
+unfoldable pub refusing_by_type : ℕ → ℕ → ℕ → Settings → List ℕ → Refusing
+refusing_by_type kind echo error w room = refusing_by_type_on (ltb (length room) reply_room) kind echo error w room

@@ -1,7 +1,7 @@
 // A message that is answered by its sums and its type alone. Noise and data messages are most of what a line carries, so that they have
 // a short way of their own.
 ghost use Rattle.std.specs.Prelude.{◌≡◌};
-ghost use Rattle.command.specs.Answer.{opening_error, refusing};
+ghost use Rattle.command.specs.Answer.{opening_error, refusing_by_type};
 
 use crate::answer::Answer;
 use crate::errors::is_kind;
@@ -24,7 +24,7 @@ pub fn opening_error(good: bool, kind: u8) -> u8
 // Answers a message that has such an error: one row with the echo and the error. In a room under 166 bytes nothing is done. Neither the
 // message nor the page is looked at.
 pub fn answer_refused(kind: u8, echo: u8, error: u8, w: Settings, room: &mut [u8]) -> Answer
-    ensures { record { answer = result; room = room.new } ≡ refusing kind echo error w room.old }
+    ensures { record { answer = result; room = room.new } ≡ refusing_by_type kind echo error w room.old }
 {
     if room.len() < 166 {
         return Answer {

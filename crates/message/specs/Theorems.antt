@@ -13,11 +13,11 @@ use Rattle.message.specs.Front.{front, most_undecided}
 use Rattle.message.specs.Message.{message_of, type_of, payload_of}
 use Rattle.message.specs.Whole.{whole_number}
 
--- The wrapped sums are the plain sums modulo 256. Proof: Sums `sums_modulo`.
+-- The wrapped sums are the plain sums modulo 256. Proof: SumLaws `sums_modulo`.
 abbrev pub SumsModulo : Type 0
 SumsModulo = (bs : List ℕ) → sums bs ≡ reduced (totals bs)
 
--- 003's Ping table: 335 and 1494 in row 4, and the final bytes 4F 25. Proof: Sums `ping_table`.
+-- 003's Ping table: 335 and 1494 in row 4, and the final bytes 4F 25. Proof: SumLaws `ping_table`.
 pub record PingTable : Type 0 where
   pub row_4 : totals (0xA5 ∷ 0xA5 ∷ 0x01 ∷ 0x02 ∷ 0x02 ∷ []) ≡ record { t1 = 335; t2 = 1494 }
   pub final : message_of 0x01 (0x02 ∷ 0x00 ∷ []) ≡ 0xA5 ∷ 0xA5 ∷ 0x01 ∷ 0x02 ∷ 0x02 ∷ 0x00 ∷ 0x4F ∷ 0x25 ∷ []
@@ -84,7 +84,7 @@ pub record StrayA5 : Type 0 where
   pub never_held : (u : List ℕ) (k : ℕ) → seek front u ≡ Starved k → type_of (drop k u) ≢ 0xA5
 
 -- The fields of a payload are those whose bytes, one field after the other, are the payload, and no others. Proofs: FieldRows
--- `fields_fill`, `Fields-back`.
+-- `fields_fill`, `fields_back`.
 abbrev pub FieldsFill : Type 0
 FieldsFill = (payload : List ℕ) (fs : List Field) → fields_of payload ≡ some fs → (row_bytes fs ≡ payload) × SizesRight fs
 

@@ -59,7 +59,7 @@ pub record BlankIsWriting : Type 0 where
   pub written : writing no_values ≡ blank_page
   pub read : values_in blank_page ≡ no_values
 
--- A value put in under a key is there, the other entries are kept, and the page stays sound. Proof: Pages `put_Keeps`.
+-- A value put in under a key is there, the other entries are kept, and the page stays sound. Proof: Pages `put_keeps`.
 pub record Put (page : List ℕ) (k : Key) (x : ℕ) : Type 0 where
   pub values : values_in (put_page page k x) ≡ with_key (values_in page) k x
   pub sound_page : sound (put_page page k x) ≡ true
