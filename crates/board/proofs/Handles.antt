@@ -1,7 +1,7 @@
 -- Handling on the reckoning's values and on the board's settings and page go together.
 use mathlib.Core.Bool.{true}
 use mathlib.Core.List.{List}
-use mathlib.Core.Option.{Option, none, some}
+use Rattle.std.specs.Prelude.{Option, Some, None}
 use mathlib.Core.Path.{◌≡◌, refl, sym, ap, ◌∙◌, fun_ext}
 use Prim.Native.Nat.{ℕ, ◌<◌}
 use lib.Dec.{eqb}
@@ -11,8 +11,6 @@ use Rattle.history.specs.Program.{passing}
 use Rattle.history.specs.Premises.{Handles}
 use Rattle.page.specs.declared.setting.Setting.{Setting}
 use Rattle.page.specs.declared.setting.Values.{Values}
-use Rattle.page.specs.declared.setting.Stored.{Stored}
-use Rattle.page.specs.declared.setting.Stored.TheVariants.{Value}
 use Rattle.page.specs.Settings.{usable, Key, value_of, last_number, key_storable}
 use Rattle.page.specs.Page.{stored_in, with_value, with_key, all_storable, writing, page_size}
 use Rattle.page.specs.Sound.{sound, put_page}
@@ -37,8 +35,8 @@ use Rattle.board.specs.Handling.{handle_on, Reckoned, Kept, loaded_of, values_ac
 pub loaded_same : (v : Values) → all_storable v ≡ true → loaded_of v ≡ loaded_from (writing v)
 loaded_same v a = fun_ext (λ s. sym (loads_stored (writing v) s (writing-sound v a) ∙ ap (λ (u : Values). loaded_value s (stored_in u s)) (read_back v a)))
 
-pub loaded_usable : (v : Values) → all_storable v ≡ true → (s : Setting) (x : ℕ) → loaded_of v s ≡ Value x → usable s x ≡ true
-loaded_usable v a s x e = loads_usable (writing v) s x (sym (ap (λ (l : Setting → Stored). l s) (loaded_same v a)) ∙ e)
+pub loaded_usable : (v : Values) → all_storable v ≡ true → (s : Setting) (x : ℕ) → loaded_of v s ≡ Some x → usable s x ≡ true
+loaded_usable v a s x e = loads_usable (writing v) s x (sym (ap (λ (l : Setting → Option ℕ). l s) (loaded_same v a)) ∙ e)
 
 -- A value put in leaves the writing of the values with it.
 record PutSame (v : Values) (k : Key) (x : ℕ) : Type 0 where
@@ -55,8 +53,8 @@ put_same v k x a e =
 
 after_same : (saves : Option Setting) (w : Settings) (v : Values) → all_storable v ≡ true → settings_usable w ≡ true
     → (page_after saved_on saves w (writing v) ≡ writing (page_after with_value saves w v)) × (all_storable (page_after with_value saves w v) ≡ true)
-after_same none w v a s = (refl, a)
-after_same (some t) w v a s =
+after_same None w v a s = (refl, a)
+after_same (Some t) w v a s =
     let p = put_same v (value_of t) (working_value w t) a (usable-storable t (working_value w t) (value_usable w t s)) in
     (p.page, p.values_storable)
 

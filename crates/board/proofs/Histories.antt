@@ -1,7 +1,7 @@
 -- Histories of calls and restarts: no number is accepted twice, and what is sent again on port 0 changes nothing.
 use mathlib.Core.Bool.{Bool, true, false, ◌&&◌, not, cond}
 use mathlib.Core.List.{List, [], ◌∷◌, ◌++◌}
-use mathlib.Core.Option.{Option, none, some}
+use Rattle.std.specs.Prelude.{Option, Some, None}
 use mathlib.Core.Path.{◌≡◌, refl, sym, ap, subst, ◌∙◌}
 use Prim.Native.Nat.{ℕ, zero, suc, ◌<◌}
 use native.Mathlib.Omega.{arith}
@@ -17,8 +17,6 @@ use Rattle.history.specs.Restarts.{Act, call, restart}
 use Rattle.history.specs.Numbers.{Growing}
 use Rattle.history.proofs.Numbers.{growing_none_twice}
 use Rattle.message.specs.Front.{front}
-use Rattle.page.specs.declared.setting.Stored.{Stored}
-use Rattle.page.specs.declared.setting.Stored.TheVariants.{Value}
 use Rattle.page.specs.Sound.{sound, page_number}
 use Rattle.command.specs.declared.rights.Rights.{Rights}
 use Rattle.command.specs.declared.settings.Settings.{Settings}
@@ -68,20 +66,20 @@ one_act_more b page (call d ∷ acts) a =
 
 -- ---- numbers that lead from the one kept before to the one kept after: each is fresh, and is then the kept one
 
-abbrev Leads : Stored → List ℕ → Stored → Type 0
+abbrev Leads : Option ℕ → List ℕ → Option ℕ → Type 0
 Leads kept [] after = after ≡ kept
-Leads kept (n ∷ ns) after = (is_fresh kept n ≡ true) × Leads (Value n) ns after
+Leads kept (n ∷ ns) after = (is_fresh kept n ≡ true) × Leads (Some n) ns after
 
-leads_append : (kept between after : Stored) (ns ms : List ℕ) → Leads kept ns between → Leads between ms after → Leads kept (ns ++ ms) after
-leads_append kept between after [] ms p q = subst (λ (k : Stored). Leads k ms after) p q
-leads_append kept between after (n ∷ ns) ms p q = (p.0, leads_append (Value n) between after ns ms p.1 q)
+leads_append : (kept between after : Option ℕ) (ns ms : List ℕ) → Leads kept ns between → Leads between ms after → Leads kept (ns ++ ms) after
+leads_append kept between after [] ms p q = subst (λ (k : Option ℕ). Leads k ms after) p q
+leads_append kept between after (n ∷ ns) ms p q = (p.0, leads_append (Some n) between after ns ms p.1 q)
 
-leads_growing : (kept after : Stored) (ns : List ℕ) → Leads kept ns after → Growing ns
+leads_growing : (kept after : Option ℕ) (ns : List ℕ) → Leads kept ns after → Growing ns
 leads_growing kept after [] l = tt
 leads_growing kept after (n ∷ []) l = tt
-leads_growing kept after (n ∷ m ∷ ns) l = (ltb-true n m l.1.0, leads_growing (Value n) after (m ∷ ns) l.1)
+leads_growing kept after (n ∷ m ∷ ns) l = (ltb-true n m l.1.0, leads_growing (Some n) after (m ∷ ns) l.1)
 
-leads_larger : (k : ℕ) (after : Stored) (ns : List ℕ) → Leads (Value k) ns after → (i : ℕ) → i < length ns → k < get_or ns i 0
+leads_larger : (k : ℕ) (after : Option ℕ) (ns : List ℕ) → Leads (Some k) ns after → (i : ℕ) → i < length ns → k < get_or ns i 0
 leads_larger k after [] l i h = absurd (omega arith)
 leads_larger k after (n ∷ ns) l zero h = ltb-true k n l.0
 leads_larger k after (n ∷ ns) l (suc i) h =
@@ -89,17 +87,17 @@ leads_larger k after (n ∷ ns) l (suc i) h =
     let b : n < get_or ns i 0 = leads_larger n after ns l.1 i (omega arith) in
     omega arith
 
-leads_last : (kept after : Stored) (ns : List ℕ) → Leads kept ns after → after ≡ last_after kept ns
+leads_last : (kept after : Option ℕ) (ns : List ℕ) → Leads kept ns after → after ≡ last_after kept ns
 leads_last kept after [] l = l
-leads_last kept after (n ∷ ns) l = leads_last (Value n) after ns l.1
+leads_last kept after (n ∷ ns) l = leads_last (Some n) after ns l.1
 
 -- ---- one message
 
-none_leads : (saved : Bool) (kept after : Stored) → after ≡ kept → Leads kept (accepted_with saved none) after
+none_leads : (saved : Bool) (kept after : Option ℕ) → after ≡ kept → Leads kept (accepted_with saved None) after
 none_leads true kept after e = e
 none_leads false kept after e = e
 
-one_leads : (fresh : Bool) (kept after : Stored) (n : ℕ) → is_fresh kept n ≡ fresh → after ≡ cond fresh (Value n) kept → Leads kept (accepted_with fresh (some n)) after
+one_leads : (fresh : Bool) (kept after : Option ℕ) (n : ℕ) → is_fresh kept n ≡ fresh → after ≡ cond fresh (Some n) kept → Leads kept (accepted_with fresh (Some n)) after
 one_leads true kept after n f e = (f, e)
 one_leads false kept after n f e = e
 
@@ -111,19 +109,19 @@ module _ (rights : Rights) (x : Kept) (m : Received) where
       → Leads (number_on x.page) (accepted_with outcome.saved (carried m)) (number_on outcome.next.page)
   message_leads h = go rights.readonly refl (carried m) refl
     where
-      kept : (r : Bool) → rights.readonly ≡ r → (c : Option ℕ) → carried m ≡ c → number_on outcome.next.page ≡ kept_on (cond r none c) (number_on x.page)
+      kept : (r : Bool) → rights.readonly ≡ r → (c : Option ℕ) → carried m ≡ c → number_on outcome.next.page ≡ kept_on (cond r None c) (number_on x.page)
       kept r rs c e = (number-kept rights x m h).kept ∙ rw (rs, e)
 
       go : (r : Bool) → rights.readonly ≡ r → (c : Option ℕ) → carried m ≡ c
           → Leads (number_on x.page) (accepted_with outcome.saved c) (number_on outcome.next.page)
-      go true rs none e = none_leads outcome.saved (number_on x.page) (number_on outcome.next.page) (kept true rs none e)
-      go false rs none e = none_leads outcome.saved (number_on x.page) (number_on outcome.next.page) (kept false rs none e)
-      go true rs (some n) e =
+      go true rs None e = none_leads outcome.saved (number_on x.page) (number_on outcome.next.page) (kept true rs None e)
+      go false rs None e = none_leads outcome.saved (number_on x.page) (number_on outcome.next.page) (kept false rs None e)
+      go true rs (Some n) e =
           let mark : outcome.saved ≡ false = (number_handles (List ℕ) page_access rights x m n e).mark ∙ rw rs in
-          rw mark (kept true rs (some n) e)
-      go false rs (some n) e =
+          rw mark (kept true rs (Some n) e)
+      go false rs (Some n) e =
           let mark : outcome.saved ≡ is_fresh (number_on x.page) n = (number_handles (List ℕ) page_access rights x m n e).mark ∙ rw rs in
-          rw mark (one_leads (is_fresh (number_on x.page) n) (number_on x.page) (number_on outcome.next.page) n refl (kept false rs (some n) e))
+          rw mark (one_leads (is_fresh (number_on x.page) n) (number_on x.page) (number_on outcome.next.page) n refl (kept false rs (Some n) e))
 
 -- ---- one call, of any board
 
@@ -180,7 +178,7 @@ module _ (b : Board) (page : List ℕ) (c : Call) where
     answered_so : answers ≡ 0 → saved ≡ not rights.readonly && is_fresh (number_on page) n
     unmarked : saved ≡ false → (settings ≡ b.settings) × (after ≡ page)
 
-  step_marks : Passed c.port b c.room page → (q : Sought) (n : ℕ) → carried_at q (held ++ chunk_of c.input) ≡ some n
+  step_marks : Passed c.port b c.room page → (q : Sought) (n : ℕ) → carried_at q (held ++ chunk_of c.input) ≡ Some n
       → Marks n (step_for q).number (step_for q).saved (step_for q).settings (step_for q).page
   step_marks p (Starved k) n e = let z : ◌≡◌ {A = ℕ} 0 1 = cc in absurd (omega arith)
   step_marks p (Found k l good) n e =
@@ -199,7 +197,7 @@ module _ (b : Board) (page : List ℕ) (c : Call) where
       left t true rs z = ap (λ (o : Outcome (List ℕ)). o.next) (t.not_allowed rs)
       left t false rs z = ap (λ (o : Outcome (List ℕ)). o.next) (t.stale rs (subst (λ (r : Bool). not r && is_fresh (number_on page) n ≡ false) rs z))
 
-  mark_is_fresh : (n : ℕ) → number_found b c ≡ some n → MarkIsFresh b page c n
+  mark_is_fresh : (n : ℕ) → number_found b c ≡ Some n → MarkIsFresh b page c n
   unfolding call_of step_by
   mark_is_fresh n e =
       let m = go number refl in
@@ -231,13 +229,13 @@ pub no_number_twice : NoNumberTwice
 no_number_twice profile page acts =
     let b : Board = (start_of profile page).board in
     let ns : List ℕ = accepted_from b page acts in
-    let after : Stored = number_on (acts_from b page acts).page in
+    let after : Option ℕ = number_on (acts_from b page acts).page in
     let l : Leads (number_on page) ns after = acts_lead b page acts in
     let g : Growing ns = leads_growing (number_on page) after ns l in
     record {
       growing = g;
       none_twice = growing_none_twice ns g;
-      larger = λ n i e. leads_larger n after ns (subst (λ (k : Stored). Leads k ns after) e l) i;
+      larger = λ n i e. leads_larger n after ns (subst (λ (k : Option ℕ). Leads k ns after) e l) i;
       kept_last = leads_last (number_on page) after ns l;
     }
 
@@ -248,26 +246,26 @@ record Same (w : Settings) (page : List ℕ) (settings : Settings) (after : List
   settings_same : settings ≡ w
   page_same : after ≡ page
 
-unmarked_or_none : (saved : Bool) (carries : Option ℕ) → accepted_with saved carries ≡ [] → (n : ℕ) → carries ≡ some n → saved ≡ false
+unmarked_or_none : (saved : Bool) (carries : Option ℕ) → accepted_with saved carries ≡ [] → (n : ℕ) → carries ≡ Some n → saved ≡ false
 unmarked_or_none false carries e n c = refl
-unmarked_or_none true none e n c = let z : ◌≡◌ {A = ℕ} 0 1 = cc in absurd (omega arith)
-unmarked_or_none true (some m) e n c = let z : ◌≡◌ {A = ℕ} 0 1 = cc in absurd (omega arith)
+unmarked_or_none true None e n c = let z : ◌≡◌ {A = ℕ} 0 1 = cc in absurd (omega arith)
+unmarked_or_none true (Some m) e n c = let z : ◌≡◌ {A = ℕ} 0 1 = cc in absurd (omega arith)
 
-module _ (b : Board) (page : List ℕ) (c : Call) (last : ℕ) (zeroth : c.port ≡ 0) (kept : number_on page ≡ Value last) where
-  step_same : Passed c.port b c.room page → (q : Sought) → carried_at q (held b page c ++ chunk_of c.input) ≡ none
+module _ (b : Board) (page : List ℕ) (c : Call) (last : ℕ) (zeroth : c.port ≡ 0) (kept : number_on page ≡ Some last) where
+  step_same : Passed c.port b c.room page → (q : Sought) → carried_at q (held b page c ++ chunk_of c.input) ≡ None
       → Same b.settings page (step_for b page c q).settings (step_for b page c q).page
   step_same p (Starved k) e = record { settings_same = refl; page_same = refl }
   step_same p (Found k l good) e =
       let m : Received = received b page c k good in
       let u : (message_outcome page_access guarded_rights (stored b page c) m).next ≡ stored b page c =
-      (number_guards (stored b page c) m last kept (ap (carries_fresh (Value last)) e)).next in
+      (number_guards (stored b page c) m last kept (ap (carries_fresh (Some last)) e)).next in
       let z : (message_outcome page_access (rights b page c) (stored b page c) m).next ≡ stored b page c =
       subst (λ (port : ℕ). (message_outcome page_access (rights_of b.readonly port) (stored b page c) m).next ≡ stored b page c) (sym zeroth) u in
       subst (λ (a : Answering). Same b.settings page a.answer.settings a.page) (sym (answered b page c p k good))
       (record { settings_same = ap (λ (x : Kept). x.settings) z; page_same = ap (λ (x : Kept). x.page) z })
 
   -- A call without a number.
-  unnumbered-same : number_found b c ≡ none → Same b.settings page (feeding b page c).answer.board.settings (feeding b page c).page
+  unnumbered-same : number_found b c ≡ None → Same b.settings page (feeding b page c).answer.board.settings (feeding b page c).page
   unfolding call_of step_by
   unnumbered-same e = go (number b page c) refl
     where
@@ -284,8 +282,8 @@ module _ (b : Board) (page : List ℕ) (c : Call) (last : ℕ) (zeroth : c.port 
     where
       go : (carries : Option ℕ) → number_found b c ≡ carries
           → Same b.settings page (feeding b page c).answer.board.settings (feeding b page c).page
-      go none h = unnumbered-same h
-      go (some n) h =
+      go None h = unnumbered-same h
+      go (Some n) h =
           let u = (marks-fresh b page c n h).unmarked (unmarked_or_none (feeding b page c).answer.saved (number_found b c) e n h) in
           record { settings_same = u.0; page_same = u.1 }
 
@@ -293,7 +291,7 @@ nothing_first : (ns ms : List ℕ) → ns ++ ms ≡ [] → (ns ≡ []) × (ms �
 nothing_first [] ms e = (refl, e)
 nothing_first (n ∷ ns) ms e = let z : ◌≡◌ {A = ℕ} 0 1 = cc in absurd (omega arith)
 
-acts_same : (b : Board) (page : List ℕ) (acts : List (Act Profile Call)) (last : ℕ) (w : Settings) → number_on page ≡ Value last → b.settings ≡ w → ((profile : Profile) → (start_of profile page).board.settings ≡ w)
+acts_same : (b : Board) (page : List ℕ) (acts : List (Act Profile Call)) (last : ℕ) (w : Settings) → number_on page ≡ Some last → b.settings ≡ w → ((profile : Profile) → (start_of profile page).board.settings ≡ w)
     → on_port_zero acts ≡ true → accepted_from b page acts ≡ []
     → Same w page (acts_from b page acts).board.settings (acts_from b page acts).page
 unfolding acts_from accepted_from

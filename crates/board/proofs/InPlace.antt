@@ -8,6 +8,7 @@ use lib.Dec.{eqb, ltb}
 use lib.ListN.{length, take, drop}
 use lib.Seq.{length-take-le}
 use borrow.Author.Tests.{lt-ltb, le-ltb, eq-eqb, ne_eqb, eqb-true}
+use Rattle.command.specs.declared.rights.Rights.{Rights}
 use Rattle.command.specs.declared.settings.Settings.{Settings}
 use Rattle.board.specs.Profile.{Profile, rights_of}
 use Rattle.board.specs.declared.board.Board.{Board}
@@ -107,6 +108,11 @@ module _ (port : ℕ) (bytes : List ℕ) (first second : ℕ) (w : Settings) (to
               room = t.room;
               page = t.page;
             }
+
+    -- The array that is lent has the bytes, and the rights are those of the port.
+    pub row_step : (rights : Rights) (profile : Profile) → rights ≡ rights_of profile port → (row : List ℕ) → row ≡ bytes → (quiet : Bool) (chunk : List ℕ) (x : Stepping)
+        → x ≡ in_place (step_at rights quiet (take h row) w chunk room page) → x ≡ in_place (step_at (rights_of profile port) quiet (take h bytes) w chunk room page)
+    row_step rights profile rs row es quiet chunk x e = rw (← rs, ← es) e
 
     -- What the totals are told of the step adds up.
     module _ (z : n ≡ 0) (quiet : Bool) (chunk : List ℕ) (brings : ℕ) (bs : brings ≡ length (chunk_of (input_of quiet chunk))) (profile : Profile)

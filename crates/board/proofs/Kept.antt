@@ -2,14 +2,16 @@
 use Prim.Native.Nat.{ℕ, suc, ◌≤◌, ◌<◌, ◌-◌, ◌+◌}
 use native.Mathlib.Omega.{arith}
 use native.Mathlib.Numerals.{add-one}
-use native.Mathlib.Nat.{sub_self, zero-add}
+use native.Mathlib.Nat.{zero-add}
 use mathlib.Core.Path.{◌≡◌, ap, ◌∙◌, sym}
-use mathlib.Core.List.{List, [], ◌∷◌, ◌++◌, append-nil, append_assoc}
-use lib.ListN.{length, take, drop, get_or, set, replicate, length-drop, length-append, length-replicate, replicate-append-replicate, take-append-drop, drop_of_length-le}
-use lib.Seq.{paste-suc, get_or-drop, length-take-le, take-append-le, take-append-add, take-take, take_at, drop-cons, drop-append-le, drop-append-add, drop-drop, set_at}
+use mathlib.Core.List.{List, ◌++◌, append_assoc}
+use lib.ListN.{length, take, drop, get_or, set, replicate, length-drop, length-append}
+use borrow.Rule.Slice.PartMut.{put_mid}
+use Rattle.std.proofs.lemmas.Slice.{drop-append-drop}
+use lib.Seq.{paste-suc, get_or-drop, length-take-le, take-append-le, take-append-add, take-take, take_at, drop-append-le, drop-drop}
 use Rattle.message.proofs.Windows.{byte_chunk, drop_chunk}
 use Rattle.board.specs.Port.{padded}
-use Rattle.board.proofs.Starts.{drop-take}
+use Rattle.command.proofs.Rests.{drop-take}
 
 -- a turn of a copy to the front of an array
 pub fill_suc : (p z : List ℕ) (i x : ℕ) → i < length p → i < length z → x ≡ get_or p i 0 → set (take i p ++ drop i z) i x ≡ take (i + 1) p ++ drop (i + 1) z
@@ -47,7 +49,7 @@ module _ (b c : List ℕ) (held from n : ℕ) (few : held ≤ 260) (long : lengt
 
   -- the window from a held byte on
   window_from : from ≤ held → drop from (take held b ++ c) ≡ take (held - from) (drop from b) ++ c
-  window_from h = drop-append-le from (take held b) c (rw first_long h) ∙ ap (λ (l : List ℕ). l ++ c) (drop-take from held b h (omega arith))
+  window_from h = drop-append-le from (take held b) c (rw first_long h) ∙ ap (λ (l : List ℕ). l ++ c) (drop-take from held b)
 
   kept_long : from ≤ held → length (take (held - from) (drop from b)) ≡ held - from
   kept_long h = length-take-le (held - from) (drop from b) (rw length-drop (omega arith))
@@ -59,37 +61,17 @@ module _ (b c : List ℕ) (held from n : ℕ) (few : held ≤ 260) (long : lengt
       take-append-le n (take (held - from) (drop from b)) c (rw (kept_long f) (omega (arith, ks, s))) ∙ take-take n (held - from) (drop from b) (omega (arith, ks, s)) in
       e ∙ rw (window_from f, t)
 
-  pub shift_both : from < held → (k : ℕ) → k ≡ held - from → k < n → (x y : List ℕ) → x ≡ take k (drop from b) ++ drop k b
-      → y ≡ take k x ++ take (n - k) (drop 0 c) ++ drop (k + (n - k)) x → y ≡ take n (drop from (take held b ++ c)) ++ drop n b
-  shift_both h k ks s x y ex ey =
+  pub shift_both : from < held → (k : ℕ) → k ≡ held - from → k < n → (x z : List ℕ) → x ≡ take k (drop from b) ++ drop k b → z ≡ take (n - k) c
+      → put_mid k (n - k) x z ≡ take n (drop from (take held b ++ c)) ++ drop n b
+  shift_both h k ks s x z ex ez =
       let f : from ≤ held = omega arith in
       let l : length (take k (drop from b)) ≡ k = ap (λ (i : ℕ). length (take i (drop from b))) ks ∙ kept_long f ∙ sym ks in
       let t : take k x ≡ take k (drop from b) = ap (take k) ex ∙ take_at (take k (drop from b)) (drop k b) k l in
       let m : k + (n - k) ≡ n = omega arith in
-      let d : drop n x ≡ drop n b =
-      ap (drop n) ex ∙ ap (λ (i : ℕ). drop i (take k (drop from b) ++ drop k b)) (sym m) ∙ ap (λ (i : ℕ). drop (i + (n - k)) (take k (drop from b) ++ drop k b)) (sym l) ∙ drop-append-add (take k (drop from b)) (drop k b) (n - k) ∙ drop-drop (n - k) k b ∙ ap (λ (i : ℕ). drop i b) m in
+      let d : drop n x ≡ drop n b = rw ex (drop-append-drop k b (take k (drop from b)) n (omega arith) l) in
       let w : take n (take (held - from) (drop from b) ++ c) ≡ take k (drop from b) ++ take (n - k) c =
       ap (λ (i : ℕ). take n (take i (drop from b) ++ c)) (sym ks) ∙ ap (λ (i : ℕ). take i (take k (drop from b) ++ c)) (sym m ∙ ap (λ (i : ℕ). i + (n - k)) (sym l)) ∙ take-append-add (take k (drop from b)) c (n - k) in
-      ey ∙ rw (m, t, d, window_from f, w)
-
--- clearing: a turn, the start and the end
-pub clear_suc : (b : List ℕ) (n j : ℕ) → n ≤ j → j < length b
-    → set (take n b ++ replicate (j - n) 0 ++ drop j b) j 0 ≡ take n b ++ replicate (j + 1 - n) 0 ++ drop (j + 1) b
-clear_suc b n j h k =
-    let l : length (take n b ++ replicate (j - n) 0) ≡ j = rw (length-append, length-take-le n b (omega arith), length-replicate) (omega arith) in
-    let q : j + 1 - n ≡ j - n + 1 = omega arith in
-    let t : ◌≡◌ {A = List ℕ} (replicate (j - n) 0 ++ (0 ∷ [])) (replicate (j - n + 1) 0) = replicate-append-replicate (j - n) 1 0 in
-    rw (drop-cons b j 0 k, set_at (take n b ++ replicate (j - n) 0) (get_or b j 0) (drop (suc j) b) 0 j l, q, ← t, add-one)
-    (simp append_assoc)
-
-pub clear_length : (b x : List ℕ) (n j : ℕ) → n ≤ j → j ≤ 260 → length b ≡ 260 → x ≡ take n b ++ replicate (j - n) 0 ++ drop j b → length x ≡ 260
-clear_length b x n j h k l e = rw (e, length-append, length-append, length-take-le n b (omega arith), length-replicate, length-drop) (omega arith)
-
-pub clear_none : (b : List ℕ) (n : ℕ) → b ≡ take n b ++ replicate (n - n) 0 ++ drop n b
-clear_none b n = sym (rw (sub_self, append-nil) (take-append-drop n b))
-
-pub clear_all : (b : List ℕ) (n j : ℕ) → length b ≡ 260 → j ≡ 260 → take n b ++ replicate (j - n) 0 ++ drop j b ≡ take n b ++ replicate (260 - n) 0
-clear_all b n j h e = rw (e, drop_of_length-le b {i = 260} (omega arith), append-nil)
+      rw (ez, drop-drop, m, t, d, window_from f, w, append_assoc)
 
 -- the whole of keeping the bytes from..to of the window
 module _ (b c : List ℕ) (held from to : ℕ) (few : held ≤ 260) (long : length b ≡ 260) (h : from ≤ to) (k : to ≤ held + length c) (s : to - from ≤ 260) where

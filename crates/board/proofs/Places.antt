@@ -32,12 +32,12 @@ use Rattle.totals.specs.Tally.{counted_of}
 use Rattle.board.specs.Profile.{rights_of}
 use Rattle.board.specs.declared.feeding.Stepped.{Stepped}
 use Rattle.board.specs.declared.board.Board.{Board}
-use Rattle.board.specs.declared.board.Fed.{Fed}
-use Rattle.board.specs.Port.{padded, held_bytes, port_holding, port_of}
+use Rattle.board.specs.declared.port.Port.{Port}
+use Rattle.board.specs.Port.{padded, held_bytes, port_holding, port_of, tally_at, with_port}
 use Rattle.board.specs.Feed.{input_of, Feeding, PortStep, unsound, feed_number, refused_feeding, accept_on, left_of, step_on, step_by, step_at, feed_on, call_of}
 use Rattle.board.specs.Place.{Stepping, in_place}
 use Rattle.board.proofs.Kept.{window_length}
-use Rattle.board.proofs.Starts.{drop-take}
+use Rattle.command.proofs.Rests.{drop-take}
 
 -- Where reading goes on after a message of n bytes at k.
 module _ (k n : ℕ) (some : 1 ≤ n) where
@@ -112,7 +112,7 @@ module _ (b chunk : List ℕ) (held : ℕ) (few : held ≤ 260) (long : length b
       left_is =
           ap (drop (resume k n good)) row_to
           ∙ ap (λ (i : ℕ). drop i (take (held + x) (take held b ++ chunk))) (sym fs)
-          ∙ drop-take from (held + x) (take held b ++ chunk) kept_after (omega (arith, kept_inside, row_long))
+          ∙ drop-take from (held + x) (take held b ++ chunk)
 
       pub left_long : held + x - from ≡ length (left_of k n good (take held b) chunk)
       left_long = sym (ap length left_is ∙ length-take-le (held + x - from) (drop from (take held b ++ chunk)) (omega (arith, length-drop from (take held b ++ chunk), row_long, kept_inside)))
@@ -194,64 +194,37 @@ module _ (quiet : Bool) (chunk : List ℕ) (brings : ℕ) (bs : brings ≡ lengt
 
 -- ---- the step put back into the board
 
-abbrev fed_by : Stepping → Board → Feeding
-fed_by t b = record { answer = record { number = t.step.number; taken = t.step.taken; skipped = t.step.skipped; error = t.step.error; saved = t.step.saved; board = b }; room = t.room; page = t.page }
+abbrev fed_by : ℕ → Board → Stepping → Tally → Feeding
+fed_by q b x t =
+    record {
+      answer = record {
+        number = x.step.number;
+        taken = x.step.taken;
+        skipped = x.step.skipped;
+        error = x.step.error;
+        saved = x.step.saved;
+        board = with_port q b (record { bytes = x.bytes; held = x.step.held }) x.step.settings t;
+      };
+      room = x.room;
+      page = x.page;
+    }
 
-module _ (b : Board) (s : PortStep) (r : Stepped) (y room page : List ℕ) (e : record { step = r; bytes = y; room = room; page = page } ≡ in_place s)
-    (t : Tally) where
-  -- The totals of a port that held so many bytes.
-  abbrev counted_by : Tally → ℕ → Stepped → Tally
-  counted_by t held r = counted_of t r.number r.taken r.skipped r.error held r.held
+abbrev counted_by : Tally → ℕ → Stepped → Tally
+counted_by t held r = counted_of t r.number r.taken r.skipped r.error held r.held
 
-  pub fed_first : t ≡ counted_by b.tally0 b.first.held r →
-      record {
-        answer = record {
-          number = r.number;
-          taken = r.taken;
-          skipped = r.skipped;
-          error = r.error;
-          saved = r.saved;
-          board = record { first = record { bytes = y; held = r.held }; second = b.second; settings = r.settings; readonly = b.readonly; tally0 = t; tally1 = b.tally1 };
-        };
-        room = room;
-        page = page;
-      } ≡ feed_on s 0 b
-  unfolding port_holding
-  fed_first c =
-      rw c
-      (ap (λ (t : Stepping). fed_by t (record {
-        first = record { bytes = t.bytes; held = t.step.held };
-        second = b.second;
-        settings = t.step.settings;
-        readonly = b.readonly;
-        tally0 = counted_by b.tally0 b.first.held t.step;
-        tally1 = b.tally1;
-      })) e)
-
-  pub fed_second : t ≡ counted_by b.tally1 b.second.held r →
-      record {
-        answer = record {
-          number = r.number;
-          taken = r.taken;
-          skipped = r.skipped;
-          error = r.error;
-          saved = r.saved;
-          board = record { first = b.first; second = record { bytes = y; held = r.held }; settings = r.settings; readonly = b.readonly; tally0 = b.tally0; tally1 = t };
-        };
-        room = room;
-        page = page;
-      } ≡ feed_on s 1 b
-  unfolding port_holding
-  fed_second c =
-      rw c
-      (ap (λ (t : Stepping). fed_by t (record {
-        first = b.first;
-        second = record { bytes = t.bytes; held = t.step.held };
-        settings = t.step.settings;
-        readonly = b.readonly;
-        tally0 = b.tally0;
-        tally1 = counted_by b.tally1 b.second.held t.step;
-      })) e)
+-- A port with its totals after a step, put back: the board of the call.
+fed_port : (q : ℕ) (b : Board) (s : PortStep) (r : Stepped) (p : Port) (t : Tally) (room page : List ℕ)
+    → record { step = r; bytes = p.bytes; room = room; page = page } ≡ in_place s → p.held ≡ r.held
+    → t ≡ counted_by (tally_at q b) (port_of q b).held r
+    → record {
+      answer = record { number = r.number; taken = r.taken; skipped = r.skipped; error = r.error; saved = r.saved; board = with_port q b p r.settings t };
+      room = room;
+      page = page;
+    } ≡ feed_on s q b
+unfolding port_holding
+fed_port q b s r p t room page e h c =
+    ap (λ (n : ℕ). fed_by q b (record { step = record r { held = n }; bytes = p.bytes; room = room; page = page }) t) h
+    ∙ rw c (ap (λ (x : Stepping). fed_by q b x (counted_by (tally_at q b) (port_of q b).held x.step)) e)
 
 -- ---- the tests, then the port
 
@@ -286,21 +259,18 @@ module _ (port : ℕ) (b : Board) (room page : List ℕ) (n : ℕ) (ns : n ≡ f
         go (suc n) h = refl
 
   -- `brings` bytes of the chunk are handed on.
-  module _ (quiet : Bool) (chunk : List ℕ) (brings : ℕ) (bs : brings ≡ length (chunk_of (input_of quiet chunk))) (r : Fed) (room_after page_after : List ℕ) where
-    pub call_on_first : n ≡ 0 → port ≡ 0
-        → record { answer = r; room = room_after; page = page_after } ≡ feed_on (step_at (rights_of b.readonly port) quiet (held_bytes b.first) b.settings (take (brings - 0) (drop 0 chunk)) room page) 0 b
-        → record { answer = r; room = room_after; page = page_after } ≡ call_of port b (input_of quiet chunk) room page
+  module _ (quiet : Bool) (chunk : List ℕ) (brings : ℕ) (bs : brings ≡ length (chunk_of (input_of quiet chunk))) (r : Stepped) (room_after page_after : List ℕ) where
+    -- `q` is the port's number in the form of its case.
+    pub call_done : n ≡ 0 → (rights : Rights) → rights ≡ rights_of b.readonly port → (q : ℕ) → port ≡ q → (p : Port) (t : Tally)
+        → record { step = r; bytes = p.bytes; room = room_after; page = page_after } ≡ in_place (step_at rights quiet (held_bytes (port_of q b)) b.settings (take (brings - 0) (drop 0 chunk)) room page)
+        → p.held ≡ r.held
+        → t ≡ counted_by (tally_at q b) (port_of q b).held r
+        → record {
+          answer = record { number = r.number; taken = r.taken; skipped = r.skipped; error = r.error; saved = r.saved; board = with_port q b p r.settings t };
+          room = room_after;
+          page = page_after;
+        } ≡ call_of port b (input_of quiet chunk) room page
     unfolding call_of
-    call_on_first z p e = e ∙ rw (← ns, z, step_brings quiet chunk brings bs (rights_of b.readonly port) (held_bytes b.first) b.settings room page, p)
-
-    pub call_on_second : n ≡ 0 → (port ≡ 0 → ⊥)
-        → record { answer = r; room = room_after; page = page_after } ≡ feed_on (step_at (rights_of b.readonly port) quiet (held_bytes b.second) b.settings (take (brings - 0) (drop 0 chunk)) room page) 1 b
-        → record { answer = r; room = room_after; page = page_after } ≡ call_of port b (input_of quiet chunk) room page
-    unfolding call_of
-    call_on_second z p e = e ∙ rw (← ns, z, step_brings quiet chunk brings bs (rights_of b.readonly port) (held_bytes b.second) b.settings room page) (go port p)
-      where
-        go : (port : ℕ) → (port ≡ 0 → ⊥)
-            → feed_on (step_by (rights_of b.readonly port) (held_bytes b.second) b.settings (input_of quiet chunk) room page) 1 b
-            ≡ feed_on (step_by (rights_of b.readonly port) (held_bytes (port_of port b)) b.settings (input_of quiet chunk) room page) port b
-        go zero p = absurd (p refl)
-        go (suc port) p = refl
+    call_done z rights rs q ps p t e h c =
+        fed_port q b _ r p t room_after page_after e h c
+        ∙ rw (← ns, z, step_brings quiet chunk brings bs rights (held_bytes (port_of q b)) b.settings room page, rs, ps)

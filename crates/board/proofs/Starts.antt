@@ -7,16 +7,17 @@ use mathlib.Core.Path.{◌≡◌, refl, sym, ap, ◌∙◌}
 use mathlib.Core.Bool.{Bool, true, false, not}
 use mathlib.Core.List.{List, ◌++◌}
 use lib.ListN.{length, take, drop, replicate, length-drop}
-use lib.Seq.{take_all, take-add, drop_at, drop-append-le, length-take-le}
+use lib.Seq.{take_all, drop-append-le, length-take-le}
 use borrow.Author.Tests.{lt-ltb, le-ltb, eq-eqb, ne_eqb}
 use Rattle.stream.specs.Seek.{resume, skipped_by}
 use Rattle.message.proofs.Windows.{drop_chunk}
 use Rattle.page.specs.Sound.{page_number}
+use Rattle.command.proofs.Rests.{drop-take}
 use Rattle.command.specs.declared.rights.Rights.{Rights}
 use Rattle.command.specs.declared.settings.Settings.{Settings}
 use Rattle.command.specs.declared.answer.Answer.{Answer}
 use Rattle.command.specs.Outcome.{received_of}
-use Rattle.command.specs.Answer.{settings_from, Answering, answering}
+use Rattle.command.specs.Answer.{Answering, answering}
 use Rattle.command.specs.Effects.{settings_usable}
 use Rattle.totals.specs.declared.Tally.{Tally}
 use Rattle.totals.specs.Tally.{zero_tally}
@@ -28,13 +29,6 @@ use Rattle.board.specs.Start.{factory_settings, fresh_board, start_on, start_of,
 use Rattle.board.specs.Feed.{unsound, feed_number}
 
 -- ---- starting
-
-pub settings_refused : (page : List ℕ) (n : ℕ) → (n ≡ 0 → ⊥) → (w : Settings) → w ≡ factory_settings → w ≡ (start_on n full page).board.settings
-settings_refused page zero h w e = absurd (h refl)
-settings_refused page (suc n) h w e = e
-
-pub settings_loaded : (page : List ℕ) (n : ℕ) → n ≡ 0 → (w : Settings) → w ≡ settings_from page → w ≡ (start_on n full page).board.settings
-settings_loaded page n z w e = rw z e
 
 module _ (profile : Profile) (page : List ℕ) (n : ℕ) (ns : n ≡ page_number page) (w : Settings) (ws : w ≡ (start_on n full page).board.settings) where
   pub start_made : record { number = n; board = fresh_board profile w } ≡ start_of profile page
@@ -124,11 +118,6 @@ pub found_reported : (held k n left : ℕ) (good : Bool) (a : Answer) (taken ski
     (record { number = 0; taken = k + n - held; skipped = skipped_by k good; error = a.error; saved = a.saved; held = left; settings = a.settings })
 found_reported held k n left good a taken skipped p q = rw (p, q)
 
-pub drop-take : (k held : ℕ) (l : List ℕ) → k ≤ held → held ≤ length l → drop k (take held l) ≡ take (held - k) (drop k l)
-drop-take k held l h s =
-    let q : held ≡ k + (held - k) = omega arith in
-    ap (λ (i : ℕ). drop k (take i l)) q ∙ ap (drop k) (take-add k (held - k) l) ∙ drop_at (take k l) (take (held - k) (drop k l)) k (length-take-le k l (omega arith))
-
 module _ (bytes chunk : List ℕ) (held k : ℕ) (good : Bool) (fits : held ≤ length bytes) where
   held_long : length (take held bytes) ≡ held
   held_long = length-take-le held bytes fits
@@ -136,7 +125,7 @@ module _ (bytes chunk : List ℕ) (held k : ℕ) (good : Bool) (fits : held ≤ 
   -- What k bytes leave of those held and of the chunk.
   row-held : k < held → take (held - k) (drop k bytes) ++ chunk ≡ drop k (take held bytes ++ chunk)
   row-held h =
-      sym (drop-append-le k (take held bytes) chunk (rw held_long (omega arith)) ∙ ap (λ (l : List ℕ). l ++ chunk) (drop-take k held bytes (omega arith) fits))
+      sym (drop-append-le k (take held bytes) chunk (rw held_long (omega arith)) ∙ ap (λ (l : List ℕ). l ++ chunk) (drop-take k held bytes))
 
   row_chunk : held ≤ k → drop (k - held) chunk ≡ drop k (take held bytes ++ chunk)
   row_chunk h = rw held_long at (drop_chunk (take held bytes) chunk k (rw held_long h))
@@ -154,9 +143,7 @@ module _ (bytes chunk : List ℕ) (held k : ℕ) (good : Bool) (fits : held ≤ 
           let f : held - (held - x) ≡ 0 = omega arith in
           rw (f, ps) (row_chunk (omega arith))
 
-  pub answer_left : (profile : Profile) (port : ℕ) (rights : Rights) → rights ≡ rights_of profile port → (x past : ℕ) → x ≡ held - k → past ≡ k - held → (w : Settings) (room page : List ℕ) (done : Answering)
+  pub answer_left : (rights : Rights) (x past : ℕ) → x ≡ held - k → past ≡ k - held → (w : Settings) (room page : List ℕ) (done : Answering)
       → done ≡ answering rights (received_of good (take (held - (held - x)) (drop (held - x) bytes) ++ take (length chunk - past) (drop past chunk))) w room page
-      → done ≡ answering (rights_of profile port) (received_of good (drop k (take held bytes ++ chunk))) w room page
-  answer_left profile port rights rs x past xs ps w room page done h =
-      h ∙ ap (λ (m : List ℕ). answering rights (received_of good m) w room page) (row_left x past xs ps)
-      ∙ ap (λ (r : Rights). answering r (received_of good (drop k (take held bytes ++ chunk))) w room page) rs
+      → done ≡ answering rights (received_of good (drop k (take held bytes ++ chunk))) w room page
+  answer_left rights x past xs ps w room page done h = h ∙ ap (λ (m : List ℕ). answering rights (received_of good m) w room page) (row_left x past xs ps)

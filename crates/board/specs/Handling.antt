@@ -1,11 +1,10 @@
 -- Document 01, "The plain reckoning": message n + 1 is handled on the values kept. Beside it, the same on the board's settings and
 -- page.
-use Rattle.std.specs.Prelude.{true, not, List, ◌≡◌, ℕ, eqb, length}
+use Rattle.std.specs.Prelude.{true, not, List, ◌≡◌, ℕ, eqb, length, Option}
 use Rattle.stream.specs.Scan.{Message}
 use Rattle.history.specs.Reckoning.{Outcome}
 use Rattle.history.specs.Program.{Tests}
 use Rattle.page.specs.declared.setting.Setting.{Setting}
-use Rattle.page.specs.declared.setting.Stored.{Stored}
 use Rattle.page.specs.declared.setting.Values.{Values}
 use Rattle.page.specs.Page.{stored_in, with_value, with_number, all_storable, writing, page_size}
 use Rattle.page.specs.Sound.{sound}
@@ -34,7 +33,7 @@ abbrev pub Reckoned : Type 0
 Reckoned = State Values
 
 -- What is loaded of a setting: the page's value, or the factory value where it has none; nothing where the page's value is not usable.
-abbrev pub loaded_of : Values → Setting → Stored
+abbrev pub loaded_of : Values → Setting → Option ℕ
 loaded_of v s = loaded_value s (stored_in v s)
 
 -- The working values as starting sets them.

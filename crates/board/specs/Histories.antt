@@ -1,8 +1,7 @@
 -- Request 03: histories of calls (feeds, and silences drained or not) and restarts of the board, each in any profile, over one page,
 -- which is not erased and which nobody else writes; the numbers accepted in them; and what is sent again. Each statement names its proof,
 -- a term of that type in a file of proofs/.
-use Rattle.std.specs.Prelude.{Bool, true, false, ◌&&◌, not, List, [], ◌∷◌, ◌++◌, ◌≡◌, ℕ, ◌<◌, eqb, length, drop, get_or}
-use Rattle.std.proofs.Math.Option.{Option, none, some}
+use Rattle.std.specs.Prelude.{Bool, true, false, ◌&&◌, not, List, [], ◌∷◌, ◌++◌, ◌≡◌, ℕ, ◌<◌, eqb, length, drop, get_or, Option, Some, None}
 use Rattle.stream.specs.declared.Sought.{Sought}
 use Rattle.stream.specs.declared.Sought.TheVariants.{Starved, Found}
 use Rattle.history.specs.Calls.{chunk_of}
@@ -10,8 +9,6 @@ use Rattle.history.specs.Program.{sought_by}
 use Rattle.history.specs.Restarts.{Act, call, restart, calls}
 use Rattle.history.specs.Numbers.{Growing, NoneTwice}
 use Rattle.message.specs.Front.{front}
-use Rattle.page.specs.declared.setting.Stored.{Stored}
-use Rattle.page.specs.declared.setting.Stored.TheVariants.{Value}
 use Rattle.command.specs.Numbers.{is_fresh}
 use Rattle.command.specs.Numbered.{carried}
 use Rattle.command.specs.Outcome.{received_of}
@@ -61,7 +58,7 @@ OneActMore = (b : Board) (page : List ℕ) (acts : List (Act Profile Call)) (a :
 
 abbrev pub carried_at : Sought → List ℕ → Option ℕ
 carried_at (Found k n good) bytes = carried (received_of good (drop k bytes))
-carried_at (Starved k) bytes = none
+carried_at (Starved k) bytes = None
 
 -- The number that a call's message carries, where it finds one that does: a feed in the bytes held and then the chunk, a silence in the
 -- bytes held.
@@ -71,8 +68,8 @@ number_found b c =
     carried_at (sought_by front c.input held) (held ++ chunk_of c.input)
 
 abbrev pub accepted_with : Bool → Option ℕ → List ℕ
-accepted_with true (some n) = n ∷ []
-accepted_with true none = []
+accepted_with true (Some n) = n ∷ []
+accepted_with true None = []
 accepted_with false carries = []
 
 -- "A fresh number sets the feed's mark of a save": a call accepts the number of its message where it sets the mark, and nowhere else.
@@ -99,21 +96,21 @@ pub record MarkIsFresh (b : Board) (page : List ℕ) (c : Call) (n : ℕ) : Type
       → ((feeding_of b page c).answer.board.settings ≡ b.settings) × ((feeding_of b page c).page ≡ page)
 
 abbrev pub MarksFresh : Type 0
-MarksFresh = (b : Board) (page : List ℕ) (c : Call) (n : ℕ) → number_found b c ≡ some n → MarkIsFresh b page c n
+MarksFresh = (b : Board) (page : List ℕ) (c : Call) (n : ℕ) → number_found b c ≡ Some n → MarkIsFresh b page c n
 
 -- ---- no number twice
 
 -- The last of some numbers, or what was kept before them.
-abbrev pub last_after : Stored → List ℕ → Stored
+abbrev pub last_after : Option ℕ → List ℕ → Option ℕ
 last_after kept [] = kept
-last_after kept (n ∷ ns) = last_after (Value n) ns
+last_after kept (n ∷ ns) = last_after (Some n) ns
 
 pub record AcceptedOnce (profile : Profile) (page : List ℕ) (acts : List (Act Profile Call)) : Type 0 where
   -- The numbers accepted strictly grow, so that none is accepted twice.
   pub growing : Growing (accepted_on profile page acts)
   pub none_twice : NoneTwice (accepted_on profile page acts)
   -- Each is larger than the number that the page kept at the beginning, if it kept one.
-  pub larger : (n i : ℕ) → number_on page ≡ Value n → i < length (accepted_on profile page acts) → n < get_or (accepted_on profile page acts) i 0
+  pub larger : (n i : ℕ) → number_on page ≡ Some n → i < length (accepted_on profile page acts) → n < get_or (accepted_on profile page acts) i 0
   -- At the end the page keeps the last of them, or what it kept at the beginning where there is none.
   pub kept_last : number_on (acts_on profile page acts).page ≡ last_after (number_on page) (accepted_on profile page acts)
 
@@ -141,5 +138,5 @@ pub record NothingChanged (profile : Profile) (page : List ℕ) (acts : List (Ac
 -- `NoNumberTwice`; so none that was accepted before is.) Proof: Histories `replay_changes_nothing`.
 abbrev pub ReplayChangesNothing : Type 0
 ReplayChangesNothing =
-    (profile : Profile) (page : List ℕ) (acts : List (Act Profile Call)) (last : ℕ) → number_on page ≡ Value last → on_port_zero acts ≡ true → accepted_on profile page acts ≡ []
+    (profile : Profile) (page : List ℕ) (acts : List (Act Profile Call)) (last : ℕ) → number_on page ≡ Some last → on_port_zero acts ≡ true → accepted_on profile page acts ≡ []
     → NothingChanged profile page acts

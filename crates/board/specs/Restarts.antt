@@ -1,7 +1,6 @@
 -- Demand 3 over the histories of calls and restarts (Histories) whose silences are drained: the plain reckoning of them, where a restart
 -- takes the working values anew from the page's values. Each statement names its proof, a term of that type in a file of proofs/.
-use Rattle.std.specs.Prelude.{true, List, [], ◌∷◌, ◌++◌, ◌≡◌, ℕ}
-use Rattle.std.proofs.Math.Option.{Option, none}
+use Rattle.std.specs.Prelude.{true, List, [], ◌∷◌, ◌++◌, ◌≡◌, ℕ, Option, None}
 use Rattle.stream.specs.Scan.{Message}
 use Rattle.history.specs.Calls.{Answer, Run, State}
 use Rattle.history.specs.Calls.{Call as CallOf}
@@ -43,7 +42,7 @@ reckoned_acts profile v acts = reckoned_history front reckon_message reply_room 
 
 -- The numbers accepted by the reckoning's answers, which name the message that each call reported.
 abbrev pub carried_by : List Message → Option ℕ
-carried_by [] = none
+carried_by [] = None
 carried_by (m ∷ ms) = carried (received_of m.good m.bytes)
 
 abbrev pub accepted_in : List Answer → List ℕ

@@ -6,6 +6,7 @@ use totals::Tally;
 #[repr(C)]
 #[derive(Clone, Copy)]
 pub struct Board {
+    // Kept: two ports and two totals in fields of their own, the C interface (`ketphiroj_board` in include/ketphiroj.h)
     // port 0
     pub first: Port,
     // port 1
@@ -31,6 +32,7 @@ impl Board {
 #[derive(Clone, Copy)]
 pub struct Started {
     // document 01's number
+    // Kept: a number in the answer, the C interface
     pub number: u8,
     pub board: Board,
 }
@@ -39,6 +41,7 @@ pub struct Started {
 #[derive(Clone, Copy)]
 pub struct Fed {
     // document 01's number
+    // Kept: a Result would hold the board in its error too, and 1 is no refusal
     pub number: u8,
     // bytes taken from the chunk, and bytes that the scan skipped
     pub taken: usize,

@@ -2,15 +2,18 @@
 // gone quiet.
 ghost use Rattle.std.specs.Prelude.{◌≡◌, length, ◌+◌, ◌≤◌, ◌<◌};
 ghost use Rattle.history.specs.Calls.{chunk_of};
-ghost use Rattle.board.specs.Profile.{rights_of};
 ghost use Rattle.board.specs.Port.{held_bytes};
-ghost use Rattle.board.specs.Feed.{input_of, step_at, feed_on, call_of, feed_of, silence_of};
-ghost use Rattle.board.specs.Place.{named_held, place_by, place_of, silence_place_of};
+ghost use Rattle.totals.specs.Tally.{counted_of};
+ghost use Rattle.board.specs.Feed.{input_of, step_at, call_of, feed_of, silence_of};
+ghost use Rattle.board.specs.Place.{in_place, named_held, place_by, place_of, silence_place_of};
 
 use crate::board::{Board, Fed};
 use crate::counting::add_call;
-use crate::feeding::{Stepped, feed_number, place_number, step, step_port};
-use command::Settings;
+use crate::feeding::{Stepped, feed_number, place_number, step};
+use crate::port::Port;
+use crate::profile::rights_of;
+use command::{Rights, Settings};
+use totals::Tally;
 
 // The bytes that a call brings: none where the line has gone quiet.
 fn brought(quiet: bool, chunk: &[u8]) -> usize
@@ -25,6 +28,7 @@ fn brought(quiet: bool, chunk: &[u8]) -> usize
 // place, `first` and `second` are the held counts of both ports, `readonly` is the profile that the board was started in, `totals` are
 // those of the named port, which are counted in place, and the answer has the named port's held count and the settings afterwards. A
 // silence does not look at the chunk.
+// Kept: the arguments one by one, the C interface (`ketphiroj_call_in_place`)
 pub fn call_in_place(
     port: u8,
     bytes: &mut [u8],
@@ -54,18 +58,12 @@ pub fn call_in_place(
         };
     }
     let n = brought(quiet, chunk);
-    let s = step(
-        port,
-        readonly,
-        bytes,
-        held,
-        &chunk[0..n],
-        quiet,
-        w,
-        room,
-        page,
-    );
-    add_call(totals, s.number, s.taken, s.skipped, s.error, held, s.held);
+    let rights = rights_of(readonly, port);
+    let Some(row) = bytes.as_mut_array() else {
+        unreachable!()
+    };
+    let s = step(rights, row, held, &chunk[0..n], quiet, w, room, page);
+    add_call(totals, s, held);
     s
 }
 
@@ -103,9 +101,9 @@ pub fn silence_in_place(
 ) -> Stepped
     ensures { record { step = result; bytes = bytes.new; totals = totals.new; room = room.new; page = page.new } ≡ silence_place_of port bytes.old first second w readonly totals.old room.old page.old }
 {
-    let none = [0u8; 1];
+    let nothing: &[u8] = &[];
     call_in_place(
-        port, bytes, first, second, w, readonly, true, totals, &none, room, page,
+        port, bytes, first, second, w, readonly, true, totals, nothing, room, page,
     )
 }
 
@@ -115,94 +113,38 @@ fn held_of(port: u8, first: usize, second: usize) -> usize
     if port == 0 { first } else { second }
 }
 
-// An accepted call of a sound board's first port, in its place: the second port and its totals are not touched.
-fn call_first(
-    port: u8,
-    mut board: Board,
+// An accepted call of a port, which is lent with its totals.
+fn call_port(
+    rights: Rights,
+    p: &mut Port,
+    tally: &mut Tally,
     chunk: &[u8],
     quiet: bool,
+    w: Settings,
     room: &mut [u8],
     page: &mut [u8],
-) -> Fed
-    requires { board.first.held ≤ 260 }
-    ensures { record { answer = result; room = room.new; page = page.new } ≡ feed_on (step_at (rights_of board.readonly port) quiet (held_bytes board.first) board.settings chunk.now room.old page.old) 0 board }
+) -> Stepped
+    requires { p.old.held ≤ 260 }
+    ensures value { record { step = result; bytes = p.new.bytes; room = room.new; page = page.new } ≡ in_place (step_at rights quiet (held_bytes p.old) w chunk.now room.old page.old) }
+    ensures held { p.new.held ≡ result.held }
+    ensures totals { tally.new ≡ counted_of tally.old result.number result.taken result.skipped result.error p.old.held result.held }
 {
-    let held = board.first.held;
-    let w = board.settings;
-    let readonly = board.readonly;
-    let s = step_port(
-        port,
-        readonly,
-        &mut board.first.bytes,
-        held,
-        chunk,
-        quiet,
-        w,
-        room,
-        page,
-    );
-    board.first.held = s.held;
-    board.settings.baud = s.settings.baud;
-    board.settings.accelerometer = s.settings.accelerometer;
-    board.settings.gyroscope = s.settings.gyroscope;
-    let tally = board.tally0;
-    let counted = tally.counted(s.number, s.taken, s.skipped, s.error, held, s.held);
-    board.tally0 = counted;
-    Fed {
-        number: s.number,
-        taken: s.taken,
-        skipped: s.skipped,
-        error: s.error,
-        saved: s.saved,
-        board,
-    }
-}
-
-// One of its second port: the first and its totals are not touched.
-fn call_second(
-    port: u8,
-    mut board: Board,
-    chunk: &[u8],
-    quiet: bool,
-    room: &mut [u8],
-    page: &mut [u8],
-) -> Fed
-    requires { board.second.held ≤ 260 }
-    ensures { record { answer = result; room = room.new; page = page.new } ≡ feed_on (step_at (rights_of board.readonly port) quiet (held_bytes board.second) board.settings chunk.now room.old page.old) 1 board }
-{
-    let held = board.second.held;
-    let w = board.settings;
-    let readonly = board.readonly;
-    let s = step_port(
-        port,
-        readonly,
-        &mut board.second.bytes,
-        held,
-        chunk,
-        quiet,
-        w,
-        room,
-        page,
-    );
-    board.second.held = s.held;
-    board.settings.baud = s.settings.baud;
-    board.settings.accelerometer = s.settings.accelerometer;
-    board.settings.gyroscope = s.settings.gyroscope;
-    let tally = board.tally1;
-    let counted = tally.counted(s.number, s.taken, s.skipped, s.error, held, s.held);
-    board.tally1 = counted;
-    Fed {
-        number: s.number,
-        taken: s.taken,
-        skipped: s.skipped,
-        error: s.error,
-        saved: s.saved,
-        board,
-    }
+    let held = p.held;
+    let s = step(rights, &mut p.bytes, held, chunk, quiet, w, room, page);
+    p.held = s.held;
+    *tally = (*tally).counted(s.number, s.taken, s.skipped, s.error, held, s.held);
+    s
 }
 
 // The tests of a call, then the named port.
-fn call(port: u8, board: Board, chunk: &[u8], quiet: bool, room: &mut [u8], page: &mut [u8]) -> Fed
+fn call(
+    port: u8,
+    mut board: Board,
+    chunk: &[u8],
+    quiet: bool,
+    room: &mut [u8],
+    page: &mut [u8],
+) -> Fed
     ensures { record { answer = result; room = room.new; page = page.new } ≡ call_of port board (input_of quiet chunk.now) room.old page.old }
 {
     let number = feed_number(
@@ -224,10 +166,40 @@ fn call(port: u8, board: Board, chunk: &[u8], quiet: bool, room: &mut [u8], page
         };
     }
     let n = brought(quiet, chunk);
-    if port == 0 {
-        return call_first(port, board, &chunk[0..n], quiet, room, page);
+    let rights = rights_of(board.readonly, port);
+    let w = board.settings;
+    let s = if port == 0 {
+        call_port(
+            rights,
+            &mut board.first,
+            &mut board.tally0,
+            &chunk[0..n],
+            quiet,
+            w,
+            room,
+            page,
+        )
+    } else {
+        call_port(
+            rights,
+            &mut board.second,
+            &mut board.tally1,
+            &chunk[0..n],
+            quiet,
+            w,
+            room,
+            page,
+        )
+    };
+    board.settings = s.settings;
+    Fed {
+        number: s.number,
+        taken: s.taken,
+        skipped: s.skipped,
+        error: s.error,
+        saved: s.saved,
+        board,
     }
-    call_second(port, board, &chunk[0..n], quiet, room, page)
 }
 
 // Feeds a chunk to a port: takes bytes up to the end of the first message, handles it and writes the reply to the front
@@ -243,6 +215,6 @@ pub fn feed(port: u8, board: Board, chunk: &[u8], room: &mut [u8], page: &mut [u
 pub fn silence(port: u8, board: Board, room: &mut [u8], page: &mut [u8]) -> Fed
     ensures { record { answer = result; room = room.new; page = page.new } ≡ silence_of port board room.old page.old }
 {
-    let none = [0u8; 1];
-    call(port, board, &none, true, room, page)
+    let nothing: &[u8] = &[];
+    call(port, board, nothing, true, room, page)
 }

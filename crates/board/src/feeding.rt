@@ -3,22 +3,22 @@
 ghost use Rattle.std.specs.Prelude.{◌≡◌, false, ◌++◌, length, take, drop, ◌+◌, ◌-◌, ◌≤◌, ◌<◌};
 ghost use Rattle.stream.specs.declared.Sought.TheVariants.{Found};
 ghost use Rattle.stream.specs.Seek.{resume, skipped_by};
+ghost use Rattle.message.specs.Unread.{bytes_of};
 ghost use Rattle.command.specs.Outcome.{received_of};
 ghost use Rattle.command.specs.Answer.{answering};
-ghost use Rattle.board.specs.Profile.{rights_of};
 ghost use Rattle.board.specs.Port.{padded};
 ghost use Rattle.board.specs.Feed.{feed_number, left_of, step_on, step_at};
 ghost use Rattle.board.specs.Place.{in_place, place_number};
 
 use crate::keep::keep_part;
 use crate::port::Port;
-use crate::profile::rights_of;
-use command::{Answer, Settings, answer_over, settings_usable};
-use message::seek_held;
+use command::{Answer, Rights, Settings, answer_over, settings_usable};
+use message::{Unread, seek_held};
 use stream::Sought;
 use totals::Tally;
 
 // The number of the first test that refuses, 0 where none does.
+// Kept: a number (b). With `Result<(), Refusal>` from here and from page::check_page a feed takes 264 bytes of stack, over 256 (bin/frames).
 pub(crate) fn feed_number(
     port: u8,
     first: usize,
@@ -47,41 +47,19 @@ pub(crate) fn feed_number(
     page::check_page(page)
 }
 
-// The part of `x` beyond `y`.
-fn excess(x: usize, y: usize) -> usize
-    ensures { result ≡ x - y }
-{
-    if x < y { 0 } else { x - y }
-}
-
-// Answers the message that starts behind `k` bytes of the first `held` and then the chunk: it lies in what those leave of
-// both, whether it is held, straddles or is all in the chunk.
+// Answers the message that starts behind `k` of the unread bytes, whether it is held, straddles or is all in the chunk.
 fn answer_at(
-    port: u8,
-    readonly: bool,
-    bytes: &[u8],
-    held: usize,
-    chunk: &[u8],
+    rights: Rights,
+    unread: Unread,
     k: usize,
     good: bool,
     w: Settings,
     room: &mut [u8],
     page: &mut [u8],
 ) -> Answer
-    requires { (held ≤ length bytes.now) × (k ≤ held + length chunk.now) }
-    ensures { record { answer = result; room = room.new; page = page.new } ≡ answering (rights_of readonly port) (received_of good (drop k (take held bytes.now ++ chunk.now))) w room.old page.old }
+    ensures { record { answer = result; room = room.new; page = page.new } ≡ answering rights (received_of good (drop k (bytes_of unread.entry))) w room.old page.old }
 {
-    let from = held - excess(held, k);
-    let past = excess(k, held);
-    answer_over(
-        rights_of(readonly, port),
-        &bytes[from..held],
-        &chunk[past..],
-        good,
-        w,
-        room,
-        page,
-    )
+    answer_over(rights, unread.after(k), good, w, room, page)
 }
 
 // Where reading goes on after a message: behind a good one, one byte after the start of a damaged one.
@@ -102,14 +80,21 @@ fn skipped_with(k: usize, good: bool) -> usize
 }
 
 // Keeps what a found message leaves of the bytes held and taken, and says how many they are.
-fn keep_after(bytes: &mut [u8], held: usize, chunk: &[u8], k: usize, n: usize, good: bool) -> usize
-    requires held_bound { (held ≤ 260) × (length bytes.old ≡ 260) }
+fn keep_after(
+    bytes: &mut [u8; 260],
+    held: usize,
+    chunk: &[u8],
+    k: usize,
+    n: usize,
+    good: bool,
+) -> usize
+    requires held_bound { held ≤ 260 }
     requires le_n { (1 ≤ n) × (n ≤ 261) × (k + n ≤ held + length chunk.now) }
     ensures value { result ≡ length (left_of k n good (take held bytes.old) chunk.now) }
     ensures bytes_after { bytes.new ≡ padded (left_of k n good (take held bytes.old) chunk.now) }
 {
     let from = resume_at(k, n, good);
-    let to = held + excess(k + n, held);
+    let to = held + (k + n).saturating_sub(held);
     keep_part(bytes, held, chunk, from, to);
     to - from
 }
@@ -124,6 +109,7 @@ pub struct Stepped {
     pub held: usize,
     pub settings: Settings,
     // document 01's number
+    // Kept: a number in the answer, the C interface (`ketphiroj_stepped` in include/ketphiroj.h)
     pub number: u8,
     // the first error in the reply, 0 where there is none
     pub error: u8,
@@ -131,8 +117,8 @@ pub struct Stepped {
 }
 
 // A step where nothing is found: the whole chunk is taken.
-fn step_starved(bytes: &mut [u8], held: usize, chunk: &[u8], k: usize, w: Settings) -> Stepped
-    requires held_bound { (held ≤ 260) × (length bytes.old ≡ 260) }
+fn step_starved(bytes: &mut [u8; 260], held: usize, chunk: &[u8], k: usize, w: Settings) -> Stepped
+    requires held_bound { held ≤ 260 }
     requires k_bound { (k ≤ held + length chunk.now) × (held + length chunk.now - k ≤ 260) }
     ensures value { result ≡ record { number = 1; taken = length chunk.now; skipped = k; error = 0; saved = false; held = length (drop k (take held bytes.old ++ chunk.now)); settings = w } }
     ensures bytes_after { bytes.new ≡ padded (drop k (take held bytes.old ++ chunk.now)) }
@@ -159,7 +145,7 @@ fn reported(held: usize, k: usize, n: usize, good: bool, a: Answer, left: usize)
     let settings = a.settings;
     Stepped {
         number: 0,
-        taken: excess(k + n, held),
+        taken: (k + n).saturating_sub(held),
         skipped: skipped_with(k, good),
         error: a.error,
         saved: a.saved,
@@ -170,9 +156,8 @@ fn reported(held: usize, k: usize, n: usize, good: bool, a: Answer, left: usize)
 
 // A step where a message is found: it is handled, and bytes are taken up to its end.
 fn step_found(
-    port: u8,
-    readonly: bool,
-    bytes: &mut [u8],
+    rights: Rights,
+    bytes: &mut [u8; 260],
     held: usize,
     chunk: &[u8],
     k: usize,
@@ -182,42 +167,21 @@ fn step_found(
     room: &mut [u8],
     page: &mut [u8],
 ) -> Stepped
-    requires held_bound { (held ≤ 260) × (length bytes.old ≡ 260) }
+    requires held_bound { held ≤ 260 }
     requires le_n { (1 ≤ n) × (n ≤ 261) × (k + n ≤ held + length chunk.now) }
-    ensures { record { step = result; bytes = bytes.new; room = room.new; page = page.new } ≡ in_place (step_on (rights_of readonly port) (Found k n good) (take held bytes.old) w chunk.now room.old page.old) }
+    ensures { record { step = result; bytes = bytes.new; room = room.new; page = page.new } ≡ in_place (step_on rights (Found k n good) (take held bytes.old) w chunk.now room.old page.old) }
 {
-    let a = answer_at(port, readonly, bytes, held, chunk, k, good, w, room, page);
+    let unread = Unread::new(bytes, held, chunk);
+    let a = answer_at(rights, unread, k, good, w, room, page);
     let left = keep_after(bytes, held, chunk, k, n, good);
     reported(held, k, n, good, a, left)
 }
 
 // One accepted call of a port, in its array.
+// Kept: `quiet` beside the chunk, since with an Option<&[u8]> a feed takes 264 bytes of stack, over the limit (docs/DECISIONS.md).
+// Kept: `room` and `page` side by side, and `bytes` and `held`: in a struct of lent parts each function would promise that they are the same.
 pub(crate) fn step(
-    port: u8,
-    readonly: bool,
-    bytes: &mut [u8],
-    held: usize,
-    chunk: &[u8],
-    quiet: bool,
-    w: Settings,
-    room: &mut [u8],
-    page: &mut [u8],
-) -> Stepped
-    requires { (held ≤ 260) × (length bytes.old ≡ 260) }
-    ensures { record { step = result; bytes = bytes.new; room = room.new; page = page.new } ≡ in_place (step_at (rights_of readonly port) quiet (take held bytes.old) w chunk.now room.old page.old) }
-{
-    match seek_held(bytes, held, chunk, quiet) {
-        Sought::Starved(k) => step_starved(bytes, held, chunk, k, w),
-        Sought::Found(k, n, good) => step_found(
-            port, readonly, bytes, held, chunk, k, n, good, w, room, page,
-        ),
-    }
-}
-
-// A step in the array of a board's port, which is lent as a slice.
-pub(crate) fn step_port(
-    port: u8,
-    readonly: bool,
+    rights: Rights,
     bytes: &mut [u8; 260],
     held: usize,
     chunk: &[u8],
@@ -226,13 +190,19 @@ pub(crate) fn step_port(
     room: &mut [u8],
     page: &mut [u8],
 ) -> Stepped
-    requires { (held ≤ 260) × (length bytes.old ≡ 260) }
-    ensures { record { step = result; bytes = bytes.new; room = room.new; page = page.new } ≡ in_place (step_at (rights_of readonly port) quiet (take held bytes.old) w chunk.now room.old page.old) }
+    requires { held ≤ 260 }
+    ensures { record { step = result; bytes = bytes.new; room = room.new; page = page.new } ≡ in_place (step_at rights quiet (take held bytes.old) w chunk.now room.old page.old) }
 {
-    step(port, readonly, bytes, held, chunk, quiet, w, room, page)
+    match seek_held(bytes, held, chunk, quiet) {
+        Sought::Starved(k) => step_starved(bytes, held, chunk, k, w),
+        Sought::Found(k, n, good) => step_found(
+            rights, bytes, held, chunk, k, n, good, w, room, page,
+        ),
+    }
 }
 
 // The number of the first test that refuses a call in place.
+// Kept: a number (b), as in `feed_number`.
 pub(crate) fn place_number(
     port: u8,
     bytes: &[u8],

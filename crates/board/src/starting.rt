@@ -4,7 +4,6 @@ ghost use Rattle.board.specs.Profile.{full};
 ghost use Rattle.board.specs.Start.{factory_settings, start_on, start_of, start_place_of};
 
 use crate::board::{Board, Started};
-use crate::keep::clear_from;
 use crate::port::Port;
 use command::{Settings, settings_from};
 use page::Setting;
@@ -59,6 +58,7 @@ pub fn start(readonly: bool, page: &[u8]) -> Started
 pub struct StartedInPlace {
     pub settings: Settings,
     // document 01's number
+    // Kept: a number in the answer, the C interface
     pub number: u8,
     // the profile that was asked for
     pub readonly: bool,
@@ -90,8 +90,8 @@ pub fn start_in_place(
     }
     let number = page::check_page(page);
     let settings = start_settings(number, page);
-    clear_from(first, 0);
-    clear_from(second, 0);
+    first.fill(0);
+    second.fill(0);
     StartedInPlace {
         settings,
         number,

@@ -4,18 +4,17 @@ use native.Mathlib.Omega.{arith}
 use mathlib.Core.Path.{◌≡◌, refl, ap, ◌∙◌}
 use mathlib.Core.Bool.{Bool, true, false}
 use mathlib.Core.List.{List, [], ◌∷◌}
-use mathlib.Core.Option.{Option, none, some}
+use mathlib.Core.Option.{Option as Maybe, none, some}
 use lib.Dec.{eqb}
 use lib.Ieee.{binary32, nan_bits}
 use lib.Ieee.Bits.{of_bits-fits}
 use lib.ListN.{take, drop}
 use Rattle.word.specs.Word.{number}
-use Rattle.page.specs.declared.setting.Stored.{Stored}
-use Rattle.page.specs.declared.setting.Stored.TheVariants.{Absent, Value}
+use Rattle.std.specs.Prelude.{Option, Some, None}
 use Rattle.sample.specs.declared.axes.Axes.{Axes}
 use Rattle.sample.specs.declared.reader.Sample.{Sample}
 use Rattle.sample.specs.declared.reader.Sample.TheVariants.{Acceleration, Rate, Unknown}
-use Rattle.sample.specs.declared.reader.FieldRead.{FieldRead}
+use Rattle.sample.specs.Reader.{FieldAnswer}
 use Rattle.sample.specs.Axes.{kept_on, kept_of, axes_from, axes_of, restored}
 use Rattle.sample.specs.Reader.{sample_on, sample_of, Found, reading_of, read_on, field_read}
 use Rattle.sample.specs.Theorems.{Kept32, Single}
@@ -27,9 +26,9 @@ use Rattle.page.specs.Page.{is_there}
 use Rattle.capi.specs.Flat.{number_in, stored_from, flat_axes, flat_on, flat_field}
 use Rattle.capi.specs.Theorems.{field_read_from, FlatBack, FlatFieldsLocated, Pattern, PatternsBack}
 
-stored_back : (s : Stored) → stored_from (is_there s) (number_in s) ≡ s
-stored_back Absent = refl
-stored_back (Value x) = refl
+stored_back : (s : Option ℕ) → stored_from (is_there s) (number_in s) ≡ s
+stored_back None = refl
+stored_back (Some x) = refl
 
 -- ---- axes that were made of patterns have these patterns
 
@@ -81,7 +80,7 @@ found_back n f h = go (eqb f.field.code 0x81) refl (eqb f.field.code 0x82) refl
     go false p true q = ap field_read_from (bytes_patterns f.field.content h n 0x82 f.place f.field.size)
     go false p false q = rw (p, q)
 
-read_back : (n : ℕ) (o : Option Found) → ((f : Found) → o ≡ some f → Bytes f.field.content)
+read_back : (n : ℕ) (o : Maybe Found) → ((f : Found) → o ≡ some f → Bytes f.field.content)
     → field_read_from (flat_field (read_on o n)) ≡ read_on o n
 read_back n none h = refl
 read_back n (some f) h = found_back n f (h f refl)
@@ -98,12 +97,12 @@ flat_back =
 
 -- ---- a field in its message
 
-flat_place : (s : Sample) (r : FieldRead) → (flat_on s r).place ≡ r.place
+flat_place : (s : Sample) (r : FieldAnswer) → (flat_on s r).place ≡ r.place
 flat_place (Acceleration a) r = refl
 flat_place (Rate a) r = refl
 flat_place (Unknown code place) r = refl
 
-flat_size : (s : Sample) (r : FieldRead) → (flat_on s r).size ≡ r.size
+flat_size : (s : Sample) (r : FieldAnswer) → (flat_on s r).size ≡ r.size
 flat_size (Acceleration a) r = refl
 flat_size (Rate a) r = refl
 flat_size (Unknown code place) r = refl

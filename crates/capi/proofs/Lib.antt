@@ -1,4 +1,2 @@
 pub mod Backs
-pub mod Copies
-pub mod Flats
 pub mod Versions

@@ -1,17 +1,15 @@
 -- How the flat structs of the calls for C stand for the answers of the calls behind them.
-use Rattle.std.specs.Prelude.{ℕ, zero, suc, Bool, true, false, List}
+use Rattle.std.specs.Prelude.{ℕ, zero, suc, Bool, true, false, List, Option, Some, None}
 use Rattle.message.specs.Write.{Writing, refused_writing, writing_of}
-use Rattle.page.specs.declared.setting.Stored.{Stored}
-use Rattle.page.specs.declared.setting.Stored.TheVariants.{Absent, Value}
 use Rattle.page.specs.declared.setting.Values.{Values}
 use Rattle.page.specs.Page.{is_there, no_values}
 use Rattle.page.specs.Lookup.{values_in}
 use Rattle.page.specs.Sound.{page_number}
-use Rattle.client.specs.declared.reader.Reply.{Reply}
+use Rattle.client.specs.Reader.{ReplyAnswer}
 use Rattle.sample.specs.declared.axes.Axes.{Axes}
 use Rattle.sample.specs.declared.reader.Sample.{Sample}
 use Rattle.sample.specs.declared.reader.Sample.TheVariants.{Acceleration, Rate, Unknown}
-use Rattle.sample.specs.declared.reader.FieldRead.{FieldRead}
+use Rattle.sample.specs.Reader.{FieldAnswer}
 use Rattle.sample.specs.Axes.{bits_of}
 use Rattle.capi.specs.declared.flat.FlatReply.{FlatReply}
 use Rattle.capi.specs.declared.flat.FlatField.{FlatField}
@@ -20,18 +18,18 @@ use Rattle.capi.specs.declared.flat.FlatPage.{FlatPage}
 
 -- ---- a value that may be absent: whether it is there, and the value or 0
 
-abbrev pub number_in : Stored → ℕ
-number_in Absent = 0
-number_in (Value x) = x
+abbrev pub number_in : Option ℕ → ℕ
+number_in None = 0
+number_in (Some x) = x
 
 -- Back: an absent one whatever number stands beside.
-abbrev pub stored_from : Bool → ℕ → Stored
-stored_from false x = Absent
-stored_from true x = Value x
+abbrev pub stored_from : Bool → ℕ → Option ℕ
+stored_from false x = None
+stored_from true x = Some x
 
 -- ---- a reply, and the values of a page
 
-abbrev pub flat_reply : Reply → FlatReply
+abbrev pub flat_reply : ReplyAnswer → FlatReply
 flat_reply r =
     record {
       number = r.number;
@@ -97,12 +95,12 @@ flat_axes number code place size a =
 
 -- A field by its code, with the place and the size of its data whatever it is. What is refused is read as an unknown field of zeros, so
 -- all but the number is 0 then.
-abbrev pub flat_on : Sample → FieldRead → FlatField
+abbrev pub flat_on : Sample → FieldAnswer → FlatField
 flat_on (Acceleration a) r = flat_axes r.number 0x81 r.place r.size a
 flat_on (Rate a) r = flat_axes r.number 0x82 r.place r.size a
 flat_on (Unknown code place) r = record { number = r.number; code = code; place = r.place; size = r.size; x = 0; y = 0; z = 0 }
 
-abbrev pub flat_field : FieldRead → FlatField
+abbrev pub flat_field : FieldAnswer → FlatField
 flat_field r = flat_on r.field r
 
 -- A copy of bytes to a room: the number of the call that found them where it refuses, else 18 where the room is shorter than

@@ -2,12 +2,11 @@
 -- message. The proofs stand in proofs/Backs.antt.
 use Rattle.std.specs.Prelude.{ℕ, ◌+◌, ◌≤◌, ◌<◌, ◌≡◌, Bool, true, false, List, eqb, length, get_or, take, drop}
 use Rattle.page.specs.declared.setting.Values.{Values}
-use Rattle.client.specs.declared.reader.Reply.{Reply}
+use Rattle.client.specs.Reader.{ReplyAnswer}
 use Rattle.sample.specs.declared.reader.Sample.{Sample}
 use Rattle.sample.specs.declared.reader.Sample.TheVariants.{Acceleration, Rate, Unknown}
-use Rattle.sample.specs.declared.reader.FieldRead.{FieldRead}
 use Rattle.sample.specs.Axes.{axes_from}
-use Rattle.sample.specs.Reader.{field_read, field_data}
+use Rattle.sample.specs.Reader.{FieldAnswer, field_read, field_data}
 use Rattle.sample.specs.Writer.{data_message}
 use Rattle.capi.specs.declared.flat.FlatReply.{FlatReply}
 use Rattle.capi.specs.declared.flat.FlatField.{FlatField}
@@ -15,7 +14,7 @@ use Rattle.capi.specs.Flat.{stored_from, flat_reply, flat_values, values_from, f
 
 -- ---- what a flat struct stands for
 
-abbrev pub reply_from : FlatReply → Reply
+abbrev pub reply_from : FlatReply → ReplyAnswer
 reply_from f = record { number = f.number; kind = f.kind; echo = f.echo; error = f.error; value = stored_from f.has_value f.value }
 
 -- The code alone tells what a field is.
@@ -24,13 +23,13 @@ sample_by true rate f = Acceleration (axes_from f.x f.y f.z)
 sample_by false true f = Rate (axes_from f.x f.y f.z)
 sample_by false false f = Unknown f.code f.place
 
-abbrev pub field_read_from : FlatField → FieldRead
+abbrev pub field_read_from : FlatField → FieldAnswer
 field_read_from f = record { number = f.number; field = sample_by (eqb f.code 0x81) (eqb f.code 0x82) f; place = f.place; size = f.size }
 
 -- ---- each comes back: a reply, the values of a page, and whatever is read as field k of a message of bytes
 
 pub record FlatBack : Type 0 where
-  pub reply_back : (r : Reply) → reply_from (flat_reply r) ≡ r
+  pub reply_back : (r : ReplyAnswer) → reply_from (flat_reply r) ≡ r
   pub values_back : (v : Values) → values_from (flat_values v) ≡ v
   pub field_back : (m : List ℕ) (k : ℕ) → ((i : ℕ) → get_or m i 0 < 256) → field_read_from (flat_field (field_read m k)) ≡ field_read m k
 

@@ -45,6 +45,7 @@ pub extern "C" fn ketphiroj_start_in_place(
 //
 // One function for both, so that the compiler makes one of a whole call: with two, a feed is a function that calls another, and
 // takes more stack (docs/DECISIONS.md). The header gives each its name.
+// Kept: what belongs together is passed part by part, as the C interface has it (`ketphiroj_call_in_place`).
 #[unsafe(no_mangle)]
 pub extern "C" fn ketphiroj_call_in_place(
     port: u8,

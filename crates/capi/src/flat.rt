@@ -1,13 +1,9 @@
 // Answers with enums in them, as structs of numbers. specs/Flat.antt says how each stands for its answer.
-ghost use Rattle.std.specs.Prelude.{◌≡◌};
-ghost use Rattle.page.specs.Page.{is_there};
-ghost use Rattle.capi.specs.Flat.{number_in, stored_from};
-
-use page::Stored;
+// Kept: numbers of refusals and flags beside values are the C interface (the structs of include/ketphiroj.h).
 
 // A row of a reply as read.
 #[repr(C)]
-#[derive(Clone, Copy)]
+#[derive(Clone, Copy, Default)]
 pub struct FlatReply {
     // document 01's number
     pub number: u8,
@@ -23,7 +19,7 @@ pub struct FlatReply {
 // A field of a data message as read. C has no part of a message to be handed out: it has the place and the size of the data, of
 // every field, and takes the part itself (`FlatLocated`).
 #[repr(C)]
-#[derive(Clone, Copy)]
+#[derive(Clone, Copy, Default)]
 pub struct FlatField {
     // document 01's number
     pub number: u8,
@@ -40,7 +36,7 @@ pub struct FlatField {
 
 // The values that a page keeps. Beside a `has_` that is false the value is not looked at, and is 0 where it is read.
 #[repr(C)]
-#[derive(Clone, Copy)]
+#[derive(Clone, Copy, Default)]
 pub struct FlatValues {
     pub has_baud: bool,
     pub baud: u32,
@@ -60,32 +56,4 @@ pub struct FlatPage {
     pub values: FlatValues,
     // document 01's number
     pub number: u8,
-}
-
-pub(crate) fn is_there(stored: Stored) -> bool
-    ensures { result ≡ is_there stored }
-{
-    match stored {
-        Stored::Absent => false,
-        Stored::Value(_) => true,
-    }
-}
-
-pub(crate) fn number_in(stored: Stored) -> u32
-    ensures { result ≡ number_in stored }
-{
-    match stored {
-        Stored::Absent => 0,
-        Stored::Value(x) => x,
-    }
-}
-
-pub(crate) fn stored_from(there: bool, x: u32) -> Stored
-    ensures { result ≡ stored_from there x }
-{
-    if there {
-        Stored::Value(x)
-    } else {
-        Stored::Absent
-    }
 }

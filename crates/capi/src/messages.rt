@@ -3,18 +3,41 @@ ghost use Rattle.std.specs.Prelude.{◌≡◌};
 ghost use Rattle.message.specs.Whole.{whole_number};
 ghost use Rattle.message.specs.Write.{plain_writing};
 ghost use Rattle.client.specs.Writer.{command_writing, numbered_writing, field_writing};
-ghost use Rattle.client.specs.Reader.{reply_read};
+ghost use Rattle.client.specs.Reader.{reply_read, reply_of};
 ghost use Rattle.capi.specs.Flat.{flat_reply};
 
-use crate::flat::{FlatReply, is_there, number_in};
+use crate::flat::FlatReply;
+use client::Reply;
 use message::Written;
+use refusal::{Refusal, number_of};
+
+impl From<Result<Reply, Refusal>> for FlatReply {
+    ghost from_gives = { λ r f. f ≡ flat_reply (reply_of r) };
+
+    fn from(answer: Result<Reply, Refusal>) -> FlatReply {
+        match answer {
+            Ok(reply) => FlatReply {
+                number: 0,
+                kind: reply.kind,
+                echo: reply.echo,
+                error: reply.error,
+                has_value: reply.value.is_some(),
+                value: reply.value.unwrap_or(0),
+            },
+            Err(refusal) => FlatReply {
+                number: u8::from(refusal),
+                ..FlatReply::default()
+            },
+        }
+    }
+}
 
 // 0 where the bytes are one whole message with right sums; 21: not one whole message; 22: wrong sums.
 #[unsafe(no_mangle)]
 pub extern "C" fn ketphiroj_check_message(message: &[u8]) -> u8
     ensures { result ≡ whole_number message.now }
 {
-    message::check_message(message)
+    number_of(message::check_message(message))
 }
 
 // Writes the message of this type and payload to the front of `room`: number 0 and its length. 26: over 255 payload bytes;
@@ -23,7 +46,7 @@ pub extern "C" fn ketphiroj_check_message(message: &[u8]) -> u8
 pub extern "C" fn ketphiroj_write_message(kind: u8, payload: &[u8], room: &mut [u8]) -> Written
     ensures { record { answer = result; room = room.new } ≡ plain_writing kind payload.now room.old }
 {
-    message::write_message(kind, payload, room)
+    Written::from(message::write_message(kind, payload, room))
 }
 
 // Writes the command of this code and function to the front of `room`: number 0 and its length. Function 1 is written with
@@ -38,7 +61,7 @@ pub extern "C" fn ketphiroj_write_command(
 ) -> Written
     ensures { record { answer = result; room = room.new } ≡ command_writing code function value room.old }
 {
-    client::write_command(code, function, value, room)
+    Written::from(client::write_command(code, function, value, room))
 }
 
 // Writes one field of a command of this type behind the first `length` bytes of `room`, a payload to be: number 0 and the payload's
@@ -57,7 +80,7 @@ pub extern "C" fn ketphiroj_append_field(
 ) -> Written
     ensures { record { answer = result; room = room.new } ≡ field_writing kind (record { code = code; function = function; value = value }) length room.old }
 {
-    client::append_field(kind, code, function, value, length, room)
+    Written::from(client::append_field(kind, code, function, value, length, room))
 }
 
 // Writes the numbered command of this code and function to the front of `room`: number 0 and its length. It is a message of type 7C:
@@ -73,7 +96,7 @@ pub extern "C" fn ketphiroj_write_numbered(
 ) -> Written
     ensures { record { answer = result; room = room.new } ≡ numbered_writing number code function value room.old }
 {
-    client::write_numbered(number, code, function, value, room)
+    Written::from(client::write_numbered(number, code, function, value, room))
 }
 
 // Reads a row, counted from 0, of a reply that is one whole message: number 0. 21: not one whole message; 22: wrong sums; 23: not
@@ -82,14 +105,5 @@ pub extern "C" fn ketphiroj_write_numbered(
 pub extern "C" fn ketphiroj_read_reply(message: &[u8], row: usize) -> FlatReply
     ensures { result ≡ flat_reply (reply_read message.now row) }
 {
-    let reply = client::read_reply(message, row);
-    let value = reply.value;
-    FlatReply {
-        number: reply.number,
-        kind: reply.kind,
-        echo: reply.echo,
-        error: reply.error,
-        has_value: is_there(value),
-        value: number_in(value),
-    }
+    FlatReply::from(client::read_reply(message, row))
 }

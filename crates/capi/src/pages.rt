@@ -2,11 +2,11 @@
 ghost use Rattle.std.specs.Prelude.{◌≡◌};
 ghost use Rattle.message.specs.Write.{writing_of};
 ghost use Rattle.page.specs.Lookup.{values_in, body_of};
-ghost use Rattle.page.specs.Page.{no_values, factory_page};
+ghost use Rattle.page.specs.Page.{factory_page};
 ghost use Rattle.page.specs.Sound.{page_number, page_writing};
 ghost use Rattle.capi.specs.Flat.{flat_values, values_from, flat_page, pages_number, copying_on};
 
-use crate::flat::{FlatPage, FlatValues, is_there, number_in, stored_from};
+use crate::flat::{FlatPage, FlatValues};
 use message::{Written, write_bytes};
 use page::{Setting, Values};
 
@@ -28,29 +28,14 @@ fn flat_values(page: &[u8]) -> FlatValues
     let gyroscope = page::stored_value(page, Setting::Gyroscope);
     let number = page::last_number(page);
     FlatValues {
-        has_baud: is_there(baud),
-        baud: number_in(baud),
-        has_accelerometer: is_there(accelerometer),
-        accelerometer: number_in(accelerometer),
-        has_gyroscope: is_there(gyroscope),
-        gyroscope: number_in(gyroscope),
-        has_last_number: is_there(number),
-        last_number: number_in(number),
-    }
-}
-
-fn no_values() -> FlatValues
-    ensures { result ≡ flat_values no_values }
-{
-    FlatValues {
-        has_baud: false,
-        baud: 0,
-        has_accelerometer: false,
-        accelerometer: 0,
-        has_gyroscope: false,
-        gyroscope: 0,
-        has_last_number: false,
-        last_number: 0,
+        has_baud: baud.is_some(),
+        baud: baud.unwrap_or(0),
+        has_accelerometer: accelerometer.is_some(),
+        accelerometer: accelerometer.unwrap_or(0),
+        has_gyroscope: gyroscope.is_some(),
+        gyroscope: gyroscope.unwrap_or(0),
+        has_last_number: number.is_some(),
+        last_number: number.unwrap_or(0),
     }
 }
 
@@ -60,27 +45,24 @@ pub extern "C" fn ketphiroj_read_page(page: &[u8]) -> FlatPage
     ensures { result ≡ flat_page page.now }
 {
     let number = page::check_page(page);
-    if number != 0 {
-        let values = no_values();
-        return FlatPage { values, number };
-    }
-    let values = flat_values(page);
-    FlatPage { values, number: 0 }
+    let values = if number == 0 {
+        flat_values(page)
+    } else {
+        FlatValues::default()
+    };
+    FlatPage { values, number }
 }
 
-// The values that a flat struct stands for.
-fn values_from(flat: FlatValues) -> Values
-    ensures { result ≡ values_from flat }
-{
-    let baud = stored_from(flat.has_baud, flat.baud);
-    let accelerometer = stored_from(flat.has_accelerometer, flat.accelerometer);
-    let gyroscope = stored_from(flat.has_gyroscope, flat.gyroscope);
-    let number = stored_from(flat.has_last_number, flat.last_number);
-    Values {
-        baud,
-        accelerometer,
-        gyroscope,
-        number,
+impl From<FlatValues> for Values {
+    ghost from_gives = { λ f v. v ≡ values_from f };
+
+    fn from(flat: FlatValues) -> Values {
+        Values {
+            baud: flat.has_baud.then_some(flat.baud),
+            accelerometer: flat.has_accelerometer.then_some(flat.accelerometer),
+            gyroscope: flat.has_gyroscope.then_some(flat.gyroscope),
+            number: flat.has_last_number.then_some(flat.last_number),
+        }
     }
 }
 
@@ -90,7 +72,7 @@ fn values_from(flat: FlatValues) -> Values
 pub extern "C" fn ketphiroj_write_page(values: FlatValues, page: &mut [u8]) -> u8
     ensures { record { number = result; page = page.new } ≡ page_writing (values_from values) page.old }
 {
-    page::write_page(values_from(values), page)
+    refusal::number_of(page::write_page(Values::from(values), page))
 }
 
 // The number of the first of two pages that is refused, 0 where both are blank or sound.
@@ -120,7 +102,7 @@ pub extern "C" fn ketphiroj_copy_body<'a>(
     if number != 0 {
         return Written { number, length: 0 };
     }
-    write_bytes(page::body(saved, factory, code), room)
+    Written::from(write_bytes(page::body(saved, factory, code), room))
 }
 
 // Writes the factory page to the front of `room`: number 0 and 64. 18: the room is too short; nothing is written then.
@@ -128,6 +110,5 @@ pub extern "C" fn ketphiroj_copy_body<'a>(
 pub extern "C" fn ketphiroj_factory_page(room: &mut [u8]) -> Written
     ensures { record { answer = result; room = room.new } ≡ writing_of factory_page room.old }
 {
-    let page = page::factory_page();
-    write_bytes(&page, room)
+    Written::from(write_bytes(&page::factory_page(), room))
 }

@@ -1,26 +1,51 @@
 // Data messages: a field read, its data bytes copied, and the writer. An axis goes in and out as its 32 bits.
 ghost use Rattle.std.specs.Prelude.{◌≡◌};
 ghost use Rattle.sample.specs.Axes.{axes_from};
-ghost use Rattle.sample.specs.Reader.{field_read, field_data};
+ghost use Rattle.message.specs.Write.{written_of};
+ghost use Rattle.sample.specs.Reader.{answer_of, field_read, field_data};
 ghost use Rattle.sample.specs.Writer.{data_writing};
 ghost use Rattle.capi.specs.Flat.{flat_axes, flat_field, copying_on};
 
 use crate::flat::FlatField;
 use message::{Written, write_bytes};
-use sample::{Axes, Sample, axes_from_bits, bits_of};
+use refusal::Refusal;
+use sample::{Axes, FieldRead, Sample, axes_from_bits, bits_of};
 
 // An acceleration's or a rate's axes.
-fn flat_axes(number: u8, code: u8, place: usize, size: usize, a: Axes) -> FlatField
-    ensures { result ≡ flat_axes number code place size a }
+fn flat_axes(code: u8, place: usize, size: usize, a: Axes) -> FlatField
+    ensures { result ≡ flat_axes 0 code place size a }
 {
     FlatField {
-        number,
+        number: 0,
         code,
         place,
         size,
         x: bits_of(a.x, a.x_nan),
         y: bits_of(a.y, a.y_nan),
         z: bits_of(a.z, a.z_nan),
+    }
+}
+
+impl From<Result<FieldRead, Refusal>> for FlatField {
+    ghost from_gives = { λ r f. f ≡ flat_field (answer_of r) };
+
+    fn from(answer: Result<FieldRead, Refusal>) -> FlatField {
+        match answer {
+            Ok(read) => match read.field {
+                Sample::Acceleration(a) => flat_axes(0x81, read.place, read.size, a),
+                Sample::Rate(a) => flat_axes(0x82, read.place, read.size, a),
+                Sample::Unknown(code, _) => FlatField {
+                    code,
+                    place: read.place,
+                    size: read.size,
+                    ..FlatField::default()
+                },
+            },
+            Err(refusal) => FlatField {
+                number: u8::from(refusal),
+                ..FlatField::default()
+            },
+        }
     }
 }
 
@@ -31,24 +56,7 @@ fn flat_axes(number: u8, code: u8, place: usize, size: usize, a: Axes) -> FlatFi
 pub extern "C" fn ketphiroj_read_field(message: &[u8], k: usize) -> FlatField
     ensures { result ≡ flat_field (field_read message.now k) }
 {
-    let read = sample::read_field(message, k);
-    let number = read.number;
-    let place = read.place;
-    let size = read.size;
-    let field = read.field;
-    match field {
-        Sample::Acceleration(a) => flat_axes(number, 0x81, place, size, a),
-        Sample::Rate(a) => flat_axes(number, 0x82, place, size, a),
-        Sample::Unknown(code, _) => FlatField {
-            number,
-            code,
-            place,
-            size,
-            x: 0,
-            y: 0,
-            z: 0,
-        },
-    }
+    FlatField::from(sample::read_field(message, k))
 }
 
 // Copies the data bytes of field k to the front of `room`: number 0 and their length. The numbers of reading the field, then
@@ -57,13 +65,13 @@ pub extern "C" fn ketphiroj_read_field(message: &[u8], k: usize) -> FlatField
 pub extern "C" fn ketphiroj_copy_field(message: &[u8], k: usize, room: &mut [u8]) -> Written
     ensures { record { answer = result; room = room.new } ≡ copying_on (field_read message.now k).number (field_data message.now k) room.old }
 {
-    let read = sample::read_field(message, k);
-    if read.number != 0 {
-        return Written {
-            number: read.number,
-            length: 0,
-        };
-    }
+    Written::from(copy_field(message, k, room))
+}
+
+fn copy_field(message: &[u8], k: usize, room: &mut [u8]) -> Result<usize, Refusal>
+    ensures { record { answer = written_of result; room = room.new } ≡ copying_on (field_read message.now k).number (field_data message.now k) room.old }
+{
+    sample::read_field(message, k)?;
     write_bytes(sample::field_data(message, k), room)
 }
 
@@ -83,5 +91,5 @@ pub extern "C" fn ketphiroj_write_data(
 {
     let acceleration = axes_from_bits(ax, ay, az);
     let rate = axes_from_bits(rx, ry, rz);
-    sample::write_data(acceleration, rate, room)
+    Written::from(sample::write_data(acceleration, rate, room))
 }

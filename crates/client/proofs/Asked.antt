@@ -10,8 +10,7 @@ use borrow.Author.Tests.{eqb-true, ne_eqb}
 use Rattle.word.specs.Word.{word}
 use Rattle.page.specs.declared.setting.Setting.{Setting}
 use Rattle.page.specs.declared.setting.Setting.TheVariants.{Baud, Accelerometer, Gyroscope}
-use Rattle.page.specs.declared.setting.Stored.{Stored}
-use Rattle.page.specs.declared.setting.Stored.TheVariants.{Absent, Value}
+use Rattle.std.specs.Prelude.{Option, Some, None}
 use Rattle.page.specs.Settings.{setting_of, code_of, usable, storable, value_bytes, value_size}
 use Rattle.page.specs.Page.{is_there}
 use Rattle.page.proofs.Pages.{usable-storable}
@@ -36,9 +35,9 @@ use Rattle.client.proofs.Commands.{about_back, subject_ping, subject_about}
 -- ---- a function of a setting
 
 -- A command's error where nothing is denied, and its effect.
-pub record Does (c : Command) (n : (Setting → Stored) → ℕ) (e : (Setting → Stored) → Settings → Effect) : Type 0 where
-  pub error : (loaded : Setting → Stored) → field_error 0 loaded c ≡ n loaded
-  pub effect : (loaded : Setting → Stored) (w : Settings) → effect_of 0 loaded w c ≡ e loaded w
+pub record Does (c : Command) (n : (Setting → Option ℕ) → ℕ) (e : (Setting → Option ℕ) → Settings → Effect) : Type 0 where
+  pub error : (loaded : Setting → Option ℕ) → field_error 0 loaded c ≡ n loaded
+  pub effect : (loaded : Setting → Option ℕ) (w : Settings) → effect_of 0 loaded w c ≡ e loaded w
 
 -- Function 1 with the bytes of a usable value.
 baud_used : (a b c d v : ℕ) → word a b c d ≡ v → usable Baud v ≡ true → storable Baud v ≡ true
@@ -81,7 +80,7 @@ used Gyroscope v h =
     rw e (gyroscope_used v h (usable-storable Gyroscope v h))
 
 -- The functions 2 to 5 do not look at the value.
-unseen : (f : ℕ) → eqb f 1 ≡ false → (loaded : Setting → Stored) (w : Settings) (s : Setting) (x y : ℕ)
+unseen : (f : ℕ) → eqb f 1 ≡ false → (loaded : Setting → Option ℕ) (w : Settings) (s : Setting) (x y : ℕ)
     → function_effect f loaded w s x ≡ function_effect f loaded w s y
 unseen zero n loaded w s x y = refl
 unseen (suc zero) n loaded w s x y = differ n
@@ -91,7 +90,7 @@ unseen (suc (suc (suc (suc zero)))) n loaded w s x y = refl
 unseen (suc (suc (suc (suc (suc f))))) n loaded w s x y = refl
 
 -- Where nothing is loaded, function 4 leaves the settings, with its error and without.
-left_alone : (f : ℕ) (loaded : Setting → Stored) (w : Settings) (s : Setting) (x : ℕ)
+left_alone : (f : ℕ) (loaded : Setting → Option ℕ) (w : Settings) (s : Setting) (x : ℕ)
     → effect_on (error_for (About s) loaded f) (function_effect f loaded w s x) w ≡ function_effect f loaded w s x
 left_alone zero loaded w s x = refl
 left_alone (suc zero) loaded w s x = refl
@@ -99,9 +98,9 @@ left_alone (suc (suc zero)) loaded w s x = refl
 left_alone (suc (suc (suc zero))) loaded w s x = refl
 left_alone (suc (suc (suc (suc zero)))) loaded w s x = go (loaded s)
   where
-    go : (o : Stored) → effect_on (refuse (not (is_there o)) 6 0) (leaving (loading w s o)) w ≡ leaving (loading w s o)
-    go Absent = refl
-    go (Value y) = refl
+    go : (o : Option ℕ) → effect_on (refuse (not (is_there o)) 6 0) (leaving (loading w s o)) w ≡ leaving (loading w s o)
+    go None = refl
+    go (Some y) = refl
 left_alone (suc (suc (suc (suc (suc f))))) loaded w s x = rw (ne_eqb (suc (suc (suc (suc (suc f))))) 4 (λ e. omega arith))
 
 without_value : (s : Setting) (f v : ℕ) → is_function f ≡ true → eqb f 1 ≡ false

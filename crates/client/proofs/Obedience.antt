@@ -8,9 +8,8 @@ use mathlib.Core.Option.{some}
 use lib.Dec.{eqb}
 use lib.ListN.{length, take, length-append}
 use borrow.Author.Tests.{ne_eqb, eqb-false, le-ltb}
-use Rattle.page.specs.declared.setting.Coded.{Coded}
-use Rattle.page.specs.declared.setting.Coded.TheVariants.{Setting as Known, Nothing}
-use Rattle.page.specs.declared.setting.Stored.{Stored}
+use Rattle.std.specs.Prelude.{Option, Some, None}
+use Rattle.page.specs.declared.setting.Setting.{Setting}
 use Rattle.page.specs.Settings.{setting_of}
 use Rattle.word.proofs.Numbers.{word_back}
 use Rattle.message.specs.Fields.{Field, row_bytes, SizesRight, fields_of}
@@ -144,7 +143,7 @@ module _ (number kind : ℕ) (fields : List ℕ) where
   number_back : number < 4294967296 → number_of behind ≡ number
   number_back h = rw (word_back number h) (omega arith)
 
-  fresh_passes : number < 4294967296 → (rights : Rights) → rights.readonly ≡ false → (last : Stored) → is_fresh last number ≡ true
+  fresh_passes : number < 4294967296 → (rights : Rights) → rights.readonly ≡ false → (last : Option ℕ) → is_fresh last number ≡ true
       → number_error rights last behind ≡ 0
   unfolding number_error
   fresh_passes h rights o last f = rw (o, le-ltb (length behind) 5 (omega arith), number_back h, f)
@@ -177,13 +176,13 @@ pub subject_same : (code : ℕ) (s : Subject) (f v : ℕ) → code_subject code 
 unfolding code_subject subject_of acceptable
 subject_same code s f v e a = go (eqb code 0x02) refl (setting_of code) refl s e a
   where
-    go : (t : Bool) → eqb code 0x02 ≡ t → (c : Coded) → setting_of code ≡ c → (s : Subject) → code_subject code ≡ s → acceptable s f v ≡ true
+    go : (t : Bool) → eqb code 0x02 ≡ t → (c : Option Setting) → setting_of code ≡ c → (s : Subject) → code_subject code ≡ s → acceptable s f v ≡ true
         → subject_of (kind_for s) code ≡ s
     go true t c r Ping e a = rw t
     go true t c r (About s) e a = let z : ◌≡◌ {A = ℕ} 0 1 = cc in absurd (omega arith)
     go false t c r (About s) e a = rw t at e
-    go false t (Known x) r Ping e a = let z : ◌≡◌ {A = ℕ} 0 1 = cc in absurd (omega arith)
-    go false t Nothing r Ping e a = let z : ◌≡◌ {A = ℕ} 0 1 = cc in absurd (omega arith)
+    go false t (Some x) r Ping e a = let z : ◌≡◌ {A = ℕ} 0 1 = cc in absurd (omega arith)
+    go false t None r Ping e a = let z : ◌≡◌ {A = ℕ} 0 1 = cc in absurd (omega arith)
     go t q c r Unknown e a = differ (sym a)
 
 pub one_is_written : OneIsWritten

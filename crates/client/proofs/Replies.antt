@@ -11,10 +11,7 @@ use lib.Seq.{take_at}
 use borrow.Author.Tests.{eq-eqb, ne_eqb, eqb-true, le-leb, le-ltb, lt-ltb}
 use Rattle.page.specs.declared.setting.Setting.{Setting}
 use Rattle.page.specs.declared.setting.Setting.TheVariants.{Baud, Accelerometer, Gyroscope}
-use Rattle.page.specs.declared.setting.Coded.{Coded}
-use Rattle.page.specs.declared.setting.Coded.TheVariants.{Setting as Known, Nothing}
-use Rattle.page.specs.declared.setting.Stored.{Stored}
-use Rattle.page.specs.declared.setting.Stored.TheVariants.{Absent, Value}
+use Rattle.std.specs.Prelude.{Option, Some, None}
 use Rattle.page.specs.Settings.{setting_of, code_of, value_size, usable, readable, value_bytes, last_number}
 use Rattle.page.proofs.Pages.{usable-readable, value_back}
 use Rattle.message.specs.Fields.{Field, fields_past, fields_of}
@@ -66,7 +63,7 @@ unfolding rows_of
 no_told kind = record { fields = []; are = refl; start = tt; rows = refl }
 
 -- A field 80 adds no value to a row before it.
-next_row : (kind echo error : ℕ) (g : Field) → g.code ≡ 0x80 → value_after kind (row_field echo error) g ≡ Absent
+next_row : (kind echo error : ℕ) (g : Field) → g.code ≡ 0x80 → value_after kind (row_field echo error) g ≡ None
 unfolding value_after
 next_row kind echo error g e = go (carries_values kind && eqb error 0) (setting_of echo)
   where
@@ -75,26 +72,26 @@ next_row kind echo error g e = go (carries_values kind && eqb error 0) (setting_
     known Accelerometer = refl
     known Gyroscope = refl
 
-    go : (t : Bool) (c : Coded) → value_if t (value_in c g) ≡ Absent
-    go true Nothing = refl
-    go true (Known s) = rw (e, known s)
+    go : (t : Bool) (c : Option Setting) → value_if t (value_in c g) ≡ None
+    go true None = refl
+    go true (Some s) = rw (e, known s)
     go false c = refl
 
 -- One row more in front, without a value.
 plain_told : (kind echo error : ℕ) → error ≤ 7 → (bs : List ℕ) (rs : List Row) → Told kind bs rs
-    → Told kind (0x80 ∷ 0x02 ∷ echo ∷ error ∷ bs) (record { echo = echo; error = error; value = Absent } ∷ rs)
+    → Told kind (0x80 ∷ 0x02 ∷ echo ∷ error ∷ bs) (record { echo = echo; error = error; value = None } ∷ rs)
 unfolding rows_of
 plain_told kind echo error h bs rs t =
     record { fields = row_field echo error ∷ t.fields; are = rw t.are; start = refl; rows = go t.fields t.start t.rows }
   where
     go : (fs : List Field) → Starts fs → rows_of kind fs ≡ some rs
-        → rows_of kind (row_field echo error ∷ fs) ≡ some (record { echo = echo; error = error; value = Absent } ∷ rs)
+        → rows_of kind (row_field echo error ∷ fs) ≡ some (record { echo = echo; error = error; value = None } ∷ rs)
     go [] s e = let q : rs ≡ [] = cc in rw (le-leb error 7 h, q)
     go (g ∷ fs) s e = rw (le-leb error 7 h, next_row kind echo error g s, e)
 
 -- One row more, with a setting's value.
 value_told : (kind : ℕ) → carries_values kind ≡ true → (s : Setting) (x : ℕ) → usable s x ≡ true → (bs : List ℕ) (rs : List Row) → Told kind bs rs
-    → Told kind (0x80 ∷ 0x02 ∷ code_of s ∷ 0 ∷ (value_field s x ++ bs)) (record { echo = code_of s; error = 0; value = Value x } ∷ rs)
+    → Told kind (0x80 ∷ 0x02 ∷ code_of s ∷ 0 ∷ (value_field s x ++ bs)) (record { echo = code_of s; error = 0; value = Some x } ∷ rs)
 unfolding rows_of value_after
 value_told kind v s x a bs rs t =
     let l : length (value_bytes s x) ≡ value_size s = value_length s x in
@@ -122,7 +119,7 @@ module _ (kind : ℕ) (rights : Rights) (x : State (List ℕ)) (ok : Sound x) (c
   FieldTold = Told kind ((field_outcome page_access rights x c).rows ++ bs) (record { echo = c.code; error = error; value = reported error c x.settings } ∷ rs)
 
   -- A field that reports nothing has the plain row.
-  silent : (effect_of (denial_of page_access rights x.page) (loaded_from x.page) x.settings c).report ≡ [] → reported error c x.settings ≡ Absent → FieldTold
+  silent : (effect_of (denial_of page_access rights x.page) (loaded_from x.page) x.settings c).report ≡ [] → reported error c x.settings ≡ None → FieldTold
   unfolding FieldTold field_outcome effect_of
   silent r v = rw (r, v) (plain_told kind c.code error (error_most (denial_of page_access rights x.page) (loaded_from x.page) c (denial_most page_access rights x.page)) bs rs t)
 
@@ -224,7 +221,7 @@ command_errors kind payload = go (not (is_kind kind)) (eqb (length payload) 0) (
     go false false true = omega arith
     go false false false = omega arith
 
-number_errors : (rights : Rights) (last : Stored) (payload : List ℕ) → number_error rights last payload ≤ 7
+number_errors : (rights : Rights) (last : Option ℕ) (payload : List ℕ) → number_error rights last payload ≤ 7
 unfolding number_error
 number_errors rights last payload = go rights.readonly (ltb (length payload) 5) (not (is_fresh last (number_of payload)))
   where

@@ -4,17 +4,14 @@ use native.Mathlib.Omega.{arith}
 use mathlib.Core.Path.{◌≡◌, refl, sym, ◌∙◌}
 use mathlib.Core.Bool.{Bool, true, false, ◌&&◌}
 use mathlib.Core.List.{List, [], ◌∷◌}
-use mathlib.Core.Option.{Option, none, some}
+use mathlib.Core.Option.{Option as Maybe, none, some}
 use lib.Dec.{eqb, leb, ltb}
 use lib.ListN.{length, take, drop, get_or}
 use lib.Seq.{length-take-le}
 use borrow.Author.Tests.{eqb-true, leb-true, leb-false, le-leb, lt-leb, lt-ltb}
 use Rattle.word.specs.Word.{number}
 use Rattle.page.specs.declared.setting.Setting.{Setting}
-use Rattle.page.specs.declared.setting.Coded.{Coded}
-use Rattle.page.specs.declared.setting.Coded.TheVariants.{Setting as Known, Nothing}
-use Rattle.page.specs.declared.setting.Stored.{Stored}
-use Rattle.page.specs.declared.setting.Stored.TheVariants.{Absent, Value}
+use Rattle.std.specs.Prelude.{Option, Some, None}
 use Rattle.page.specs.Settings.{setting_of, code_of, value_size, readable}
 use Rattle.message.specs.Fields.{Field, cons_field, fields_past, fields_of}
 use Rattle.message.proofs.FieldRows.{past_there, past_short}
@@ -27,7 +24,7 @@ use Rattle.client.proofs.Tests.{size_some, size_small}
 -- ---- no row
 
 -- Fields of which the first is no row are no rows.
-not_rows : (kind : ℕ) (f : Field) (o : Option (List Field)) → is_row f ≡ false → rows_in kind (cons_field f o) ≡ none
+not_rows : (kind : ℕ) (f : Field) (o : Maybe (List Field)) → is_row f ≡ false → rows_in kind (cons_field f o) ≡ none
 unfolding rows_of
 not_rows kind f none e = refl
 not_rows kind f (some []) e = rw e
@@ -62,12 +59,12 @@ no_row kind (a ∷ n ∷ bs) l e = go (eqb a 0x80) refl (eqb n 2) refl
 
 -- A field whose code, size and value are a setting's, with all its bytes there.
 value_field_lem : (s : Setting) (x n : ℕ) (ys : List ℕ) → n ≤ length ys
-    → value_in (Known s) (record { code = x; size = n; content = take n ys }) ≡ value_on (starts_with_value s (x ∷ n ∷ ys)) (number (take n ys))
+    → value_in (Some s) (record { code = x; size = n; content = take n ys }) ≡ value_on (starts_with_value s (x ∷ n ∷ ys)) (number (take n ys))
 unfolding starts_with_value
 value_field_lem s x n ys h = go (eqb n (value_size s)) refl
   where
     go : (t : Bool) → eqb n (value_size s) ≡ t
-        → value_in (Known s) (record { code = x; size = n; content = take n ys })
+        → value_in (Some s) (record { code = x; size = n; content = take n ys })
         ≡ value_on (leb (value_size s + 2) (length (x ∷ n ∷ ys)) && eqb x (code_of s) && eqb n (value_size s) && readable s (number (take (value_size s) ys))) (number (take n ys))
     go true p =
         let e : n ≡ value_size s = eqb-true n (value_size s) p in
@@ -85,9 +82,9 @@ abbrev pub row_field : ℕ → ℕ → Field
 row_field echo error = record { code = 0x80; size = 2; content = echo ∷ error ∷ [] }
 
 -- What a field with n bytes of data adds to a row before it: nothing, or its value.
-data Adds (n : ℕ) (ys : List ℕ) (v : Stored) (m : ℕ) : Type 0 where
-  nothing : v ≡ Absent → m ≡ 0 → Adds n ys v m
-  value : v ≡ Value (number (take n ys)) → m ≡ n + 2 → 1 ≤ n → n ≤ 4 → Adds n ys v m
+data Adds (n : ℕ) (ys : List ℕ) (v : Option ℕ) (m : ℕ) : Type 0 where
+  nothing : v ≡ None → m ≡ 0 → Adds n ys v m
+  value : v ≡ Some (number (take n ys)) → m ≡ n + 2 → 1 ≤ n → n ≤ 4 → Adds n ys v m
 
 -- Where a field has a value, it has the setting's size, and its bytes are there.
 there : (s : Setting) (x n : ℕ) (ys : List ℕ) → starts_with_value s (x ∷ n ∷ ys) ≡ true → (n ≡ value_size s) × (n ≤ length ys)
@@ -105,15 +102,15 @@ module _ (kind echo error x n : ℕ) (ys : List ℕ) (h : n ≤ length ys) where
   adds = go (carries_values kind && eqb error 0) (setting_of echo)
     where
       known : (s : Setting) (b : Bool) → starts_with_value s (x ∷ n ∷ ys) ≡ b
-          → Adds n ys (value_in (Known s) (record { code = x; size = n; content = take n ys })) (coded_size (Known s) (x ∷ n ∷ ys))
+          → Adds n ys (value_in (Some s) (record { code = x; size = n; content = take n ys })) (coded_size (Some s) (x ∷ n ∷ ys))
       known s true e =
           let z : n ≡ value_size s = (there s x n ys e).0 in
           value (value_field_lem s x n ys h ∙ rw e) (rw (e, z)) (omega (arith, size_some s)) (omega (arith, size_small s))
       known s false e = nothing (value_field_lem s x n ys h ∙ rw e) (rw e)
 
-      go : (t : Bool) (c : Coded) → Adds n ys (value_if t (value_in c (record { code = x; size = n; content = take n ys }))) (size_if t (coded_size c (x ∷ n ∷ ys)))
-      go true Nothing = nothing refl refl
-      go true (Known s) = known s (starts_with_value s (x ∷ n ∷ ys)) refl
+      go : (t : Bool) (c : Option Setting) → Adds n ys (value_if t (value_in c (record { code = x; size = n; content = take n ys }))) (size_if t (coded_size c (x ∷ n ∷ ys)))
+      go true None = nothing refl refl
+      go true (Some s) = known s (starts_with_value s (x ∷ n ∷ ys)) refl
       go false c = nothing refl refl
 
 -- Where no setting's value stands, none is added.
@@ -121,9 +118,9 @@ none_added : (kind echo error : ℕ) (bs : List ℕ) → ((s : Setting) → star
 unfolding value_field_size
 none_added kind echo error bs h = go (carries_values kind && eqb error 0) (setting_of echo)
   where
-    go : (t : Bool) (c : Coded) → size_if t (coded_size c bs) ≡ 0
-    go true Nothing = refl
-    go true (Known s) = rw (h s)
+    go : (t : Bool) (c : Option Setting) → size_if t (coded_size c bs) ≡ 0
+    go true None = refl
+    go true (Some s) = rw (h s)
     go false c = refl
 
 short_added : (kind echo error : ℕ) (bs : List ℕ) → length bs < 2 → value_field_size kind echo error bs ≡ 0
@@ -146,7 +143,7 @@ pub record Front (kind : ℕ) (bs : List ℕ) (z : ℕ) : Type 0 where
 
 module _ (kind echo error : ℕ) (t : is_error error ≡ true) where
   abbrev plain : Row
-  plain = record { echo = echo; error = error; value = Absent }
+  plain = record { echo = echo; error = error; value = None }
 
   plain-front : (rest : List ℕ) → rows_in kind (cons_field (row_field echo error) (fields_past 0 rest)) ≡ cons_row plain (rows_in kind (fields_past 0 rest))
       → value_field_size kind echo error rest ≡ 0 → Front kind (0x80 ∷ 2 ∷ echo ∷ error ∷ rest) (4 + value_field_size kind echo error rest)
@@ -157,19 +154,19 @@ module _ (kind echo error : ℕ) (t : is_error error ≡ true) where
     abbrev second : Field
     second = record { code = x; size = n; content = take n ys }
 
-    plain_rows : (o : Option (List Field)) → value_after kind (row_field echo error) second ≡ Absent
+    plain_rows : (o : Maybe (List Field)) → value_after kind (row_field echo error) second ≡ None
         → rows_in kind (cons_field (row_field echo error) (cons_field second o)) ≡ cons_row plain (rows_in kind (cons_field second o))
     unfolding rows_of
     plain_rows none a = refl
     plain_rows (some fs) a = rw (t, a)
 
-    value_rows : (o : Option (List Field)) (v : ℕ) → value_after kind (row_field echo error) second ≡ Value v
-        → rows_in kind (cons_field (row_field echo error) (cons_field second o)) ≡ cons_row (record { echo = echo; error = error; value = Value v }) (rows_in kind o)
+    value_rows : (o : Maybe (List Field)) (v : ℕ) → value_after kind (row_field echo error) second ≡ Some v
+        → rows_in kind (cons_field (row_field echo error) (cons_field second o)) ≡ cons_row (record { echo = echo; error = error; value = Some v }) (rows_in kind o)
     unfolding rows_of
     value_rows none v a = refl
     value_rows (some fs) v a = rw (t, a)
 
-    value_front : value_after kind (row_field echo error) second ≡ Value (number (take n ys)) → 1 ≤ n → n ≤ 4
+    value_front : value_after kind (row_field echo error) second ≡ Some (number (take n ys)) → 1 ≤ n → n ≤ 4
         → Front kind (0x80 ∷ 2 ∷ echo ∷ error ∷ x ∷ n ∷ ys) (4 + (n + 2))
     unfolding fields_of row_in
     value_front a l u =

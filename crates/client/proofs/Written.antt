@@ -12,7 +12,7 @@ use Rattle.word.specs.Word.{word, word_bytes}
 use Rattle.word.proofs.Numbers.{bytes_back}
 use Rattle.page.specs.declared.setting.Setting.{Setting}
 use Rattle.page.specs.declared.setting.Setting.TheVariants.{Baud, Accelerometer, Gyroscope}
-use Rattle.page.specs.declared.setting.Stored.{Stored}
+use Rattle.std.specs.Prelude.{Option}
 use Rattle.page.specs.Settings.{setting_of, code_of, usable, value_bytes, value_size}
 use Rattle.message.specs.Fields.{Field, field_bytes, row_bytes, SizesRight}
 use Rattle.message.specs.Message.{message_of, type_of, length_of, payload_of}
@@ -102,7 +102,7 @@ first_size false true true f e = differ (sym e)
 first_size false true false f e = differ (sym f)
 first_size false false t f e = differ (sym e)
 
-module _ (denial : ℕ) (loaded : Setting → Stored) (kind : ℕ) (f : Field) (sized : f.size ≡ length f.content) (bytes : (i : ℕ) → get_or f.content i 0 < 256)
+module _ (denial : ℕ) (loaded : Setting → Option ℕ) (kind : ℕ) (f : Field) (sized : f.size ≡ length f.content) (bytes : (i : ℕ) → get_or f.content i 0 < 256)
     (free : field_error denial loaded (command_of kind f) ≡ 0) where
   passed : Accepted loaded (command_of kind f)
   passed = accepted denial loaded (command_of kind f) free

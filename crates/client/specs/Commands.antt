@@ -1,8 +1,7 @@
 -- What is proved of the command writer, beyond the contracts of the code. Each statement names its proof, a term of that type in a
 -- file of proofs/.
-use Rattle.std.specs.Prelude.{◌≡◌, Bool, true, false, ◌&&◌, not, List, [], ◌∷◌, ◌++◌, ℕ, zero, suc, ◌+◌, ◌<◌, ◌≤◌, eqb, length, take}
+use Rattle.std.specs.Prelude.{◌≡◌, Bool, true, false, ◌&&◌, not, List, [], ◌∷◌, ◌++◌, ℕ, zero, suc, ◌+◌, ◌<◌, ◌≤◌, eqb, length, take, Option}
 use Rattle.page.specs.declared.setting.Setting.{Setting}
-use Rattle.page.specs.declared.setting.Stored.{Stored}
 use Rattle.page.specs.Page.{is_there}
 use Rattle.message.specs.Message.{message_of}
 use Rattle.message.specs.Whole.{refuse, whole_number}
@@ -23,13 +22,13 @@ use Rattle.client.specs.Writer.{code_subject, kind_for, acceptable, command_mess
 
 -- The error of a subject's function: none, but for function 4 where nothing is loaded, since the page holds a value that is not usable on
 -- this board (6).
-abbrev pub error_for : Subject → (Setting → Stored) → ℕ → ℕ
+abbrev pub error_for : Subject → (Setting → Option ℕ) → ℕ → ℕ
 error_for Ping loaded function = 0
 error_for (About s) loaded function = refuse (eqb function 4 && not (is_there (loaded s))) 6 0
 error_for Unknown loaded function = 0
 
 -- Its effect with a value. (Function 4 leaves the settings where nothing is loaded.)
-abbrev pub effect_for : Subject → (Setting → Stored) → Settings → ℕ → ℕ → Effect
+abbrev pub effect_for : Subject → (Setting → Option ℕ) → Settings → ℕ → ℕ → Effect
 effect_for Ping loaded w function value = leaving w
 effect_for (About s) loaded w function value = function_effect function loaded w s value
 effect_for Unknown loaded w function value = leaving w

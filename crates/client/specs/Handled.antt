@@ -1,9 +1,8 @@
 -- What is proved of messages that are handled without error: they are what the command writers write. Each statement names its proof, a
 -- term of that type in a file of proofs/.
-use Rattle.std.specs.Prelude.{◌≡◌, true, ◌&&◌, cond, List, [], ◌∷◌, ℕ, ◌<◌, eqb, leb, get_or}
+use Rattle.std.specs.Prelude.{◌≡◌, true, ◌&&◌, cond, List, [], ◌∷◌, ℕ, ◌<◌, eqb, leb, get_or, Option}
 use Rattle.std.proofs.Math.Option.{some}
 use Rattle.page.specs.declared.setting.Setting.{Setting}
-use Rattle.page.specs.declared.setting.Stored.{Stored}
 use Rattle.message.specs.Fields.{Field, field_bytes, row_bytes, fields_of}
 use Rattle.message.specs.Message.{message_of, type_of, payload_of}
 use Rattle.command.specs.Command.{command_of}
@@ -23,7 +22,7 @@ all_looked_at kind (f ∷ fs) = looked_at kind f ∷ all_looked_at kind fs
 -- Each field is handled without error, whatever functions 1, 3, 4 and 5 are denied with, for some values to be loaded.
 abbrev pub NoErrors : ℕ → ℕ → List Field → Type 0
 NoErrors denial kind [] = Unit {0}
-NoErrors denial kind (f ∷ fs) = ((loaded : Setting → Stored) × (field_error denial loaded (command_of kind f) ≡ 0)) × NoErrors denial kind fs
+NoErrors denial kind (f ∷ fs) = ((loaded : Setting → Option ℕ) × (field_error denial loaded (command_of kind f) ≡ 0)) × NoErrors denial kind fs
 
 -- Every message of type 01 or 02 whose fields are all handled without error is, but for the value bytes that are not looked at, one of what is
 -- asked by its codes, functions and values. (The value bytes are bytes.)
@@ -48,5 +47,5 @@ pub record IsWritten (m : List ℕ) (f : Field) : Type 0 where
 -- Proof: Written `one_obeyed_is_written`.
 abbrev pub OneObeyedIsWritten : Type 0
 OneObeyedIsWritten =
-    (denial : ℕ) (loaded : Setting → Stored) (m : List ℕ) (f : Field) → ((i : ℕ) → get_or m i 0 < 256) → fields_of (payload_of m) ≡ some (f ∷ [])
+    (denial : ℕ) (loaded : Setting → Option ℕ) (m : List ℕ) (f : Field) → ((i : ℕ) → get_or m i 0 < 256) → fields_of (payload_of m) ≡ some (f ∷ [])
     → field_error denial loaded (command_of (type_of m) f) ≡ 0 → IsWritten m f

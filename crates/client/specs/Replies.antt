@@ -1,8 +1,6 @@
 -- What is proved of the reply reader, beyond the contract of the code. Each statement names its proof, a term of that type in a file of
 -- proofs/.
-use Rattle.std.specs.Prelude.{◌≡◌, true, not, cond, List, [], ◌∷◌, ℕ, zero, suc, eqb, get_or}
-use Rattle.page.specs.declared.setting.Stored.{Stored}
-use Rattle.page.specs.declared.setting.Stored.TheVariants.{Absent, Value}
+use Rattle.std.specs.Prelude.{◌≡◌, true, not, cond, List, [], ◌∷◌, ℕ, zero, suc, eqb, get_or, Option, Some, None}
 use Rattle.page.specs.Sound.{sound}
 use Rattle.message.specs.Fields.{fields_of}
 use Rattle.message.specs.Message.{message_of}
@@ -20,21 +18,20 @@ use Rattle.command.specs.Outcome.{Access, State, Received, denial_of, field_outc
 use Rattle.command.specs.Handle.{fields_in, spent}
 use Rattle.command.specs.Answer.{page_access}
 use Rattle.command.specs.Theorems.{reply_to}
-use Rattle.client.specs.declared.reader.Reply.{Reply}
-use Rattle.client.specs.Reader.{Row, no_reply, row_read, reply_read}
+use Rattle.client.specs.Reader.{Row, ReplyAnswer, no_reply, row_read, reply_read}
 
 -- The value that a field's row carries: the working value, under an accepted function 2 of a setting.
-abbrev pub report_on : Subject → ℕ → Settings → Stored
-report_on Ping function w = Absent
-report_on (About s) function w = cond (eqb function 2) (Value (working_value w s)) Absent
-report_on Unknown function w = Absent
+abbrev pub report_on : Subject → ℕ → Settings → Option ℕ
+report_on Ping function w = None
+report_on (About s) function w = cond (eqb function 2) (Some (working_value w s)) None
+report_on Unknown function w = None
 
-abbrev pub reported : ℕ → Command → Settings → Stored
-reported error c w = cond (eqb error 0) (report_on (subject_of c.kind c.code) c.function w) Absent
+abbrev pub reported : ℕ → Command → Settings → Option ℕ
+reported error c w = cond (eqb error 0) (report_on (subject_of c.kind c.code) c.function w) None
 
 -- One row without a value.
 abbrev pub plain_row : ℕ → ℕ → List Row
-plain_row echo error = record { echo = echo; error = error; value = Absent } ∷ []
+plain_row echo error = record { echo = echo; error = error; value = None } ∷ []
 
 module _ {P : Type 0} (access : Access P) where
   -- The rows of fields handled in order: the code, the error, and the value at its turn.
@@ -79,17 +76,17 @@ range_reply x = message_of 0x02 (0x80 ∷ 0x02 ∷ 0x08 ∷ 0x00 ∷ 0x08 ∷ 0x
 abbrev pub error_reply : ℕ → List ℕ
 error_reply e = message_of 0x02 (0x80 ∷ 0x02 ∷ 0x08 ∷ e ∷ [])
 
-abbrev pub one_row : ℕ → Stored → Reply
+abbrev pub one_row : ℕ → Option ℕ → ReplyAnswer
 one_row error value = record { number = 0; kind = 0x02; echo = 0x08; error = error; value = value }
 
 -- "The reply reader still takes them, from older boards": 06 and 07, and none beyond; and the errors of the table, up to 7. Proof: Replies
 -- `older_read`.
 pub record OlderRead : Type 0 where
   pub none : reply_read (range_reply 0x00) 0 ≡ no_reply 23
-  pub five : reply_read (range_reply 0x05) 0 ≡ one_row 0 (Value 0x05)
-  pub six : reply_read (range_reply 0x06) 0 ≡ one_row 0 (Value 0x06)
-  pub seven : reply_read (range_reply 0x07) 0 ≡ one_row 0 (Value 0x07)
+  pub five : reply_read (range_reply 0x05) 0 ≡ one_row 0 (Some 0x05)
+  pub six : reply_read (range_reply 0x06) 0 ≡ one_row 0 (Some 0x06)
+  pub seven : reply_read (range_reply 0x07) 0 ≡ one_row 0 (Some 0x07)
   pub eight : reply_read (range_reply 0x08) 0 ≡ no_reply 23
-  pub error_six : reply_read (error_reply 6) 0 ≡ one_row 6 Absent
-  pub error_seven : reply_read (error_reply 7) 0 ≡ one_row 7 Absent
+  pub error_six : reply_read (error_reply 6) 0 ≡ one_row 6 None
+  pub error_seven : reply_read (error_reply 7) 0 ≡ one_row 7 None
   pub error_eight : reply_read (error_reply 8) 0 ≡ no_reply 23

@@ -1,12 +1,11 @@
 -- Internal: the rows of a reply on its bytes, as the reader's code tests them.
-use Rattle.std.specs.Prelude.{Bool, true, false, ◌&&◌, List, ℕ, ◌+◌, eqb, leb, ltb, length, take, drop, get_or}
+use Rattle.std.specs.Prelude.{Bool, true, false, ◌&&◌, List, [], ◌∷◌, ℕ, ◌+◌, ◌-◌, ◌<◌, ◌≡◌, Ok, eqb, leb, ltb, length, take, drop, get_or, Option, Some, None}
 use Rattle.word.specs.Word.{number}
 use Rattle.page.specs.declared.setting.Setting.{Setting}
-use Rattle.page.specs.declared.setting.Coded.{Coded}
-use Rattle.page.specs.declared.setting.Coded.TheVariants.{Setting as Known, Nothing}
 use Rattle.page.specs.Settings.{setting_of, code_of, value_size, readable}
 use Rattle.page.specs.Loading.{value_on}
-use Rattle.client.specs.Reader.{carries_values, Row, is_error}
+use Rattle.client.specs.declared.reader.Reply.{Reply}
+use Rattle.client.specs.Reader.{carries_values, Row, is_error, row_read, reply_of}
 
 -- Do the bytes start with a field of this setting, with its value size and a readable value?
 unfoldable pub starts_with_value : Setting → List ℕ → Bool
@@ -18,9 +17,9 @@ abbrev pub size_if : Bool → ℕ → ℕ
 size_if true n = n
 size_if false n = 0
 
-abbrev pub coded_size : Coded → List ℕ → ℕ
-coded_size Nothing bs = 0
-coded_size (Known s) bs = size_if (starts_with_value s bs) (value_size s + 2)
+abbrev pub coded_size : Option Setting → List ℕ → ℕ
+coded_size None bs = 0
+coded_size (Some s) bs = size_if (starts_with_value s bs) (value_size s + 2)
 
 -- The size of the field behind an echo and an error that adds a value to them; 0 where none does.
 unfoldable pub value_field_size : ℕ → ℕ → ℕ → List ℕ → ℕ
@@ -37,3 +36,17 @@ row_size kind bs = size_if (starts_with_row bs) (4 + value_field_size kind (get_
 -- What the bytes of a row say. A value stands behind the four bytes of the field 80 and the next field's code and size.
 unfoldable pub row_in : List ℕ → Row
 row_in bs = record { echo = get_or bs 2 0; error = get_or bs 3 0; value = value_on (ltb 6 (length bs)) (number (drop 6 bs)) }
+
+-- ---- the front, and what is behind it
+
+-- The value in a field of z bytes at the front.
+pub record ValueSplit (z : ℕ) (bs : List ℕ) (v : ℕ) (rest : List ℕ) : Type 0 where
+  pub some : 2 < z
+  pub value : v ≡ number (take (z - 2) (drop 2 bs))
+  pub behind : rest ≡ drop z bs
+
+-- The row at the front.
+pub record RowSplit (kind : ℕ) (bs : List ℕ) (r : Reply) (rest : List ℕ) : Type 0 where
+  pub some : row_size kind bs ≡ 0 → ⊥
+  pub row : reply_of (Ok r) ≡ row_read kind (row_in (take (row_size kind bs) bs) ∷ []) 0
+  pub behind : rest ≡ drop (row_size kind bs) bs

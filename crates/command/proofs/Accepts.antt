@@ -6,7 +6,7 @@ use native.Mathlib.Omega.{arith}
 use lib.Dec.{eqb}
 use borrow.Author.Tests.{not-false, eq-eqb}
 use Rattle.page.specs.declared.setting.Setting.{Setting}
-use Rattle.page.specs.declared.setting.Stored.{Stored}
+use Rattle.std.specs.Prelude.{Option}
 use Rattle.page.specs.Settings.{usable, storable, not_on_this_board}
 use Rattle.page.specs.Page.{is_there}
 use Rattle.message.specs.Whole.{refuse}
@@ -38,12 +38,12 @@ field_right subject c e =
     }
 
 -- The tests of a command without error.
-pub record Accepted (loaded : Setting → Stored) (c : Command) : Type 0 where
+pub record Accepted (loaded : Setting → Option ℕ) (c : Command) : Type 0 where
   pub known : is_unknown (subject_of c.kind c.code) ≡ false
   pub field : FieldRight (subject_of c.kind c.code) c
   pub on_board : not_on_board (subject_of c.kind c.code) loaded c ≡ false
 
-pub accepted : (denial : ℕ) (loaded : Setting → Stored) (c : Command) → field_error denial loaded c ≡ 0 → Accepted loaded c
+pub accepted : (denial : ℕ) (loaded : Setting → Option ℕ) (c : Command) → field_error denial loaded c ≡ 0 → Accepted loaded c
 unfolding field_error
 accepted denial loaded c e =
     let subject = subject_of c.kind c.code in
@@ -53,7 +53,7 @@ accepted denial loaded c e =
     record { known = three.0; field = field_right subject c four.0; on_board = six.0 }
 
 -- An accepted command about a setting: under function 1 the value sent is usable, and under function 4 a value is loaded.
-module _ (loaded : Setting → Stored) (c : Command) (s : Setting) (on : not_on_board (About s) loaded c ≡ false) where
+module _ (loaded : Setting → Option ℕ) (c : Command) (s : Setting) (on : not_on_board (About s) loaded c ≡ false) where
   tests : (eqb c.function 1 && not_on_this_board s (value_for s c) ≡ false) × (eqb c.function 4 && not (is_there (loaded s)) ≡ false)
   tests = or_neither (eqb c.function 1 && not_on_this_board s (value_for s c)) (eqb c.function 4 && not (is_there (loaded s))) on
 
@@ -77,7 +77,7 @@ denial_most access rights page = go rights.readonly (rights.guarded && is_there 
     go false true = omega arith
     go false false = omega arith
 
-pub error_most : (denial : ℕ) (loaded : Setting → Stored) (c : Command) → denial ≤ 7 → field_error denial loaded c ≤ 7
+pub error_most : (denial : ℕ) (loaded : Setting → Option ℕ) (c : Command) → denial ≤ 7 → field_error denial loaded c ≤ 7
 unfolding field_error
 error_most denial loaded c l = let subject = subject_of c.kind c.code in go (is_unknown subject) (denied denial subject c) (field_wrong subject c) (not_on_board subject loaded c)
   where

@@ -10,8 +10,7 @@ use lib.Dec.{eqb}
 use borrow.Author.Tests.{lt-ltb, le-ltb}
 use Rattle.page.specs.declared.setting.Setting.{Setting}
 use Rattle.page.specs.declared.setting.Setting.TheVariants.{Baud, Accelerometer, Gyroscope}
-use Rattle.page.specs.declared.setting.Stored.{Stored}
-use Rattle.page.specs.declared.setting.Stored.TheVariants.{Value}
+use Rattle.std.specs.Prelude.{Option, Some}
 use Rattle.page.specs.Settings.{factory_value}
 use Rattle.page.specs.Page.{is_there}
 use Rattle.message.specs.declared.write.Written.{Written}
@@ -61,11 +60,11 @@ factory_fits Gyroscope x e = omega arith
 
 -- ---- the settings after a function
 
-module _ (f : ℕ) (loaded : Setting → Stored) (w : Settings) (s : Setting) (x : ℕ) (r : Settings) where
+module _ (f : ℕ) (loaded : Setting → Option ℕ) (w : Settings) (s : Setting) (x : ℕ) (r : Settings) where
   pub after_use : f ≡ 1 → r ≡ with_working w s x → r ≡ (function_effect f loaded w s x).settings
   after_use e h = h ∙ rw e
 
-  pub after_load : f ≡ 4 → (y : ℕ) → loaded s ≡ Value y → r ≡ with_working w s y → r ≡ (function_effect f loaded w s x).settings
+  pub after_load : f ≡ 4 → (y : ℕ) → loaded s ≡ Some y → r ≡ with_working w s y → r ≡ (function_effect f loaded w s x).settings
   after_load e y p h = h ∙ rw (e, p)
 
   pub after_factory : 5 ≤ f → (y : ℕ) → y ≡ factory_value s → r ≡ with_working w s y → r ≡ (function_effect f loaded w s x).settings
@@ -79,7 +78,7 @@ module _ (f : ℕ) (loaded : Setting → Stored) (w : Settings) (s : Setting) (x
       five (suc (suc (suc (suc zero)))) l = absurd (omega arith)
       five (suc (suc (suc (suc (suc f))))) l = refl
 
-pub after_none : (f : ℕ) (loaded : Setting → Stored) (w : Settings) (s : Setting) (x : ℕ) → (f ≡ 1 → ⊥) → (f ≡ 4 → ⊥) → f < 5
+pub after_none : (f : ℕ) (loaded : Setting → Option ℕ) (w : Settings) (s : Setting) (x : ℕ) → (f ≡ 1 → ⊥) → (f ≡ 4 → ⊥) → f < 5
     → w ≡ (function_effect f loaded w s x).settings
 after_none zero loaded w s x n m l = refl
 after_none (suc zero) loaded w s x n m l = absurd (n refl)

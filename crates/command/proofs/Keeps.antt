@@ -1,13 +1,11 @@
 -- A field keeps the working values usable; a save is accepted under function 3 only.
 use mathlib.Core.Path.{◌≡◌, refl, ap}
 use mathlib.Core.Bool.{true, false, ◌&&◌}
-use mathlib.Core.Option.{some}
+use Rattle.std.specs.Prelude.{Option, Some, None}
 use Prim.Native.Nat.{ℕ, zero, suc}
 use native.Mathlib.Omega.{arith}
 use Rattle.page.specs.declared.setting.Setting.{Setting}
 use Rattle.page.specs.declared.setting.Setting.TheVariants.{Baud, Accelerometer, Gyroscope}
-use Rattle.page.specs.declared.setting.Stored.{Stored}
-use Rattle.page.specs.declared.setting.Stored.TheVariants.{Absent, Value}
 use Rattle.page.specs.Settings.{usable, factory_value}
 use Rattle.page.specs.Loading.{value_or}
 use Rattle.command.specs.declared.settings.Settings.{Settings}
@@ -51,13 +49,13 @@ pub usable_each : (w : Settings) → UsableEach w
 unfolding settings_usable
 usable_each w = record { each = λ e s. value_usable w s e; all = λ h. rw (h Baud, h Accelerometer, h Gyroscope) }
 
-loading-usable : (w : Settings) (s : Setting) (o : Stored) → settings_usable w ≡ true → ((x : ℕ) → o ≡ Value x → usable s x ≡ true)
+loading-usable : (w : Settings) (s : Setting) (o : Option ℕ) → settings_usable w ≡ true → ((x : ℕ) → o ≡ Some x → usable s x ≡ true)
     → settings_usable (loading w s o) ≡ true
-loading-usable w s Absent e h = e
-loading-usable w s (Value x) e h = with_usable w s x e (h x refl)
+loading-usable w s None e h = e
+loading-usable w s (Some x) e h = with_usable w s x e (h x refl)
 
-module _ (loaded : Setting → Stored) (w : Settings) (c : Command) where
-  function_keeps : (f : ℕ) (s : Setting) (x : ℕ) → ((s : Setting) (x : ℕ) → loaded s ≡ Value x → usable s x ≡ true) → settings_usable w ≡ true
+module _ (loaded : Setting → Option ℕ) (w : Settings) (c : Command) where
+  function_keeps : (f : ℕ) (s : Setting) (x : ℕ) → ((s : Setting) (x : ℕ) → loaded s ≡ Some x → usable s x ≡ true) → settings_usable w ≡ true
       → (f ≡ 1 → usable s x ≡ true) → settings_usable (function_effect f loaded w s x).settings ≡ true
   function_keeps zero s x l e h = e
   function_keeps (suc zero) s x l e h = with_usable w s x e (h refl)
@@ -66,7 +64,7 @@ module _ (loaded : Setting → Stored) (w : Settings) (c : Command) where
   function_keeps (suc (suc (suc (suc zero)))) s x l e h = loading-usable w s (loaded s) e (l s)
   function_keeps (suc (suc (suc (suc (suc f))))) s x l e h = with_usable w s (factory_value s) e (factory_usable s)
 
-  field_keeps : (subject : Subject) → value_right subject c ≡ true → not_on_board subject loaded c ≡ false → ((s : Setting) (x : ℕ) → loaded s ≡ Value x → usable s x ≡ true)
+  field_keeps : (subject : Subject) → value_right subject c ≡ true → not_on_board subject loaded c ≡ false → ((s : Setting) (x : ℕ) → loaded s ≡ Some x → usable s x ≡ true)
       → settings_usable w ≡ true
       → settings_usable (field_effect subject loaded w c).settings ≡ true
   field_keeps Ping v o l e = e
@@ -81,9 +79,9 @@ keeps_usable denial loaded w c l e = go (field_error denial loaded c) refl
     go zero p = let a = accepted denial loaded c p in field_keeps loaded w c (subject_of c.kind c.code) a.field.value a.on_board l e
     go (suc n) p = e
 
-start_usable : (s : Setting) (o : Stored) → ((x : ℕ) → o ≡ Value x → usable s x ≡ true) → usable s (value_or o (factory_value s)) ≡ true
-start_usable s Absent h = factory_usable s
-start_usable s (Value x) h = h x refl
+start_usable : (s : Setting) (o : Option ℕ) → ((x : ℕ) → o ≡ Some x → usable s x ≡ true) → usable s (value_or o (factory_value s)) ≡ true
+start_usable s None h = factory_usable s
+start_usable s (Some x) h = h x refl
 
 pub starts_usable : StartsUsable
 unfolding settings_usable start_settings
@@ -92,7 +90,7 @@ starts_usable loaded l =
 
 -- ---- saves
 
-function_saves : (f : ℕ) (loaded : Setting → Stored) (w : Settings) (s : Setting) (x : ℕ) (t : Setting) → (function_effect f loaded w s x).saves ≡ some t → f ≡ 3
+function_saves : (f : ℕ) (loaded : Setting → Option ℕ) (w : Settings) (s : Setting) (x : ℕ) (t : Setting) → (function_effect f loaded w s x).saves ≡ Some t → f ≡ 3
 function_saves zero loaded w s x t e = cc
 function_saves (suc zero) loaded w s x t e = cc
 function_saves (suc (suc zero)) loaded w s x t e = cc
@@ -100,7 +98,7 @@ function_saves (suc (suc (suc zero))) loaded w s x t e = refl
 function_saves (suc (suc (suc (suc zero)))) loaded w s x t e = cc
 function_saves (suc (suc (suc (suc (suc f))))) loaded w s x t e = cc
 
-function_saved : (f : ℕ) (loaded : Setting → Stored) (w : Settings) (s : Setting) (x : ℕ) (t : Setting) → (function_effect f loaded w s x).saves ≡ some t → s ≡ t
+function_saved : (f : ℕ) (loaded : Setting → Option ℕ) (w : Settings) (s : Setting) (x : ℕ) (t : Setting) → (function_effect f loaded w s x).saves ≡ Some t → s ≡ t
 function_saved zero loaded w s x t e = cc
 function_saved (suc zero) loaded w s x t e = cc
 function_saved (suc (suc zero)) loaded w s x t e = cc
@@ -108,7 +106,7 @@ function_saved (suc (suc (suc zero))) loaded w s x t e = cc
 function_saved (suc (suc (suc (suc zero)))) loaded w s x t e = cc
 function_saved (suc (suc (suc (suc (suc f))))) loaded w s x t e = cc
 
-field-saves : (subject : Subject) (loaded : Setting → Stored) (w : Settings) (c : Command) (t : Setting) → (field_effect subject loaded w c).saves ≡ some t
+field-saves : (subject : Subject) (loaded : Setting → Option ℕ) (w : Settings) (c : Command) (t : Setting) → (field_effect subject loaded w c).saves ≡ Some t
     → (subject ≡ About t) × (c.function ≡ 3)
 field-saves Ping loaded w c t e = let z : ◌≡◌ {A = ℕ} 0 1 = cc in absurd (omega arith)
 field-saves (About s) loaded w c t e =
@@ -119,14 +117,14 @@ pub saves_only : SavesOnly
 unfolding effect_of
 saves_only denial loaded w c s e = go (field_error denial loaded c) refl e
   where
-    go : (n : ℕ) → field_error denial loaded c ≡ n → (effect_on n (field_effect (subject_of c.kind c.code) loaded w c) w).saves ≡ some s
+    go : (n : ℕ) → field_error denial loaded c ≡ n → (effect_on n (field_effect (subject_of c.kind c.code) loaded w c) w).saves ≡ Some s
         → SaveOf denial loaded c s
     go zero p q =
         let f = field-saves (subject_of c.kind c.code) loaded w c s q in
         record { no_error = p; about = f.0; function = f.1 }
     go (suc n) p q = let z : ◌≡◌ {A = ℕ} 0 1 = cc in absurd (omega arith)
 
-saved_function : (f : ℕ) (loaded : Setting → Stored) (w : Settings) (s : Setting) (x : ℕ) → f ≡ 3 → (function_effect f loaded w s x).saves ≡ some s
+saved_function : (f : ℕ) (loaded : Setting → Option ℕ) (w : Settings) (s : Setting) (x : ℕ) → f ≡ 3 → (function_effect f loaded w s x).saves ≡ Some s
 saved_function f loaded w s x e = rw e
 
 pub saves_then : SavesThen

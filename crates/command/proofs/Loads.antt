@@ -10,8 +10,7 @@ use Rattle.word.specs.Word.{number}
 use Rattle.page.specs.declared.setting.Setting.{Setting}
 use Rattle.page.specs.declared.setting.Setting.TheVariants.{Baud, Accelerometer, Gyroscope}
 use Rattle.page.specs.declared.lookup.Entry.{Entry}
-use Rattle.page.specs.declared.lookup.Entry.TheVariants.{At, Nothing}
-use Rattle.page.specs.declared.setting.Stored.TheVariants.{Value}
+use Rattle.std.specs.Prelude.{Option, Some, None}
 use Rattle.page.specs.Settings.{code_of, usable, factory_value}
 use Rattle.page.specs.Page.{is_there, writing, factory_page}
 use Rattle.page.specs.Lookup.{entry_from, entry_of, part_of, body_on, body_of}
@@ -64,21 +63,21 @@ factory_loaded Accelerometer = refl
 factory_loaded Gyroscope = refl
 
 -- The page is looked at through a part that is all of it.
-module _ (page : List ℕ) (s : Setting) (code : ℕ) (cs : code ≡ code_of s) (e : Entry) (es : e ≡ entry_of (take (length page - 0) (drop 0 page)) code) (r : ℕ) where
+module _ (page : List ℕ) (s : Setting) (code : ℕ) (cs : code ≡ code_of s) (e : Option Entry) (es : e ≡ entry_of (take (length page - 0) (drop 0 page)) code) (r : ℕ) where
   whole : take (length page - 0) (drop 0 page) ≡ page
   whole = take_all (length page - 0) page (omega arith)
 
   entry_is : e ≡ entry_of page (code_of s)
   entry_is = es ∙ ap (λ (l : List ℕ). entry_of l code) whole ∙ ap (entry_of page) cs
 
-  pub loaded_factory : e ≡ Nothing → r ≡ factory_value s → r ≡ looked_up page s
+  pub loaded_factory : e ≡ None → r ≡ factory_value s → r ≡ looked_up page s
   unfolding looked_up body_of
   loaded_factory none h = h ∙ factory_loaded s ∙ rw (sym entry_is ∙ none)
 
-  module _ {offset n : ℕ} (there : e ≡ At offset n) (body : List ℕ) (bs : body ≡ part_of (take (length page - 0) (drop 0 page)) offset n) where
+  module _ {i : Entry} (there : e ≡ Some i) (body : List ℕ) (bs : body ≡ part_of (take (length page - 0) (drop 0 page)) i.offset i.length) where
     body_is : body ≡ body_of page factory_page (code_of s)
     unfolding body_of
-    body_is = bs ∙ ap (λ (l : List ℕ). part_of l offset n) whole ∙ rw (sym entry_is ∙ there)
+    body_is = bs ∙ ap (λ (l : List ℕ). part_of l i.offset i.length) whole ∙ rw (sym entry_is ∙ there)
 
     pub loaded_baud : s ≡ Baud → r ≡ number (take 4 body) → r ≡ looked_up page s
     unfolding looked_up
@@ -112,12 +111,12 @@ module _ (page : List ℕ) (s : Setting) (x : ℕ) (xs : x ≡ looked_up page s)
   load_refused e = rw (load_is, e)
 
 -- What is looked up is what is loaded, where something is.
-pub loaded_there : (page : List ℕ) (s : Setting) (x : ℕ) → x ≡ looked_up page s → is_there (loaded_from page s) ≡ true → loaded_from page s ≡ Value x
+pub loaded_there : (page : List ℕ) (s : Setting) (x : ℕ) → x ≡ looked_up page s → is_there (loaded_from page s) ≡ true → loaded_from page s ≡ Some x
 unfolding loaded_from
 loaded_there page s x xs t = go (usable s (looked_up page s)) t
   where
-    go : (b : Bool) → is_there (value_on b (looked_up page s)) ≡ true → value_on b (looked_up page s) ≡ Value x
-    go true t = ap Value (sym xs)
+    go : (b : Bool) → is_there (value_on b (looked_up page s)) ≡ true → value_on b (looked_up page s) ≡ Some x
+    go true t = ap Some (sym xs)
     go false t = differ (sym t)
 
 pub settings_loaded : (page : List ℕ) (b a g : ℕ) → b ≡ value_or (loaded_from page Baud) (factory_value Baud)

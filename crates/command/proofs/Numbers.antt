@@ -4,14 +4,12 @@ use native.Mathlib.Omega.{arith}
 use mathlib.Core.Path.{◌≡◌, refl, sym, ap, subst, ◌∙◌}
 use mathlib.Core.Bool.{Bool, true, false, ◌&&◌, not, cond}
 use mathlib.Core.List.{List, [], ◌∷◌}
-use mathlib.Core.Option.{Option, none, some}
+use Rattle.std.specs.Prelude.{Option, Some, None}
 use lib.Dec.{eqb, leb}
 use lib.ListN.{length, get_or}
 use borrow.Author.Tests.{ne_eqb, le-ltb, lt-ltb, leb-true, leb-false}
 use Rattle.page.specs.declared.setting.Setting.{Setting}
 use Rattle.page.specs.declared.setting.Setting.TheVariants.{Baud, Accelerometer, Gyroscope}
-use Rattle.page.specs.declared.setting.Stored.{Stored}
-use Rattle.page.specs.declared.setting.Stored.TheVariants.{Absent, Value}
 use Rattle.page.specs.declared.setting.Values.{Values}
 use Rattle.page.specs.Settings.{last_number, key_storable}
 use Rattle.page.specs.Page.{is_there, with_value, all_storable, writing, page_size}
@@ -46,11 +44,11 @@ record Carries (m : Received) (n : ℕ) : Type 0 where
   pub long : 5 ≤ length m.payload
   pub number : number_of m.payload ≡ n
 
-carries : (m : Received) (n : ℕ) → carried m ≡ some n → Carries m n
+carries : (m : Received) (n : ℕ) → carried m ≡ Some n → Carries m n
 unfolding carried
 carries m n e = go (m.good && eqb m.kind numbered_kind && leb 5 (length m.payload)) refl e
   where
-    go : (b : Bool) → m.good && eqb m.kind numbered_kind && leb 5 (length m.payload) ≡ b → cond b (some (number_of m.payload)) none ≡ some n → Carries m n
+    go : (b : Bool) → m.good && eqb m.kind numbered_kind && leb 5 (length m.payload) ≡ b → cond b (Some (number_of m.payload)) None ≡ Some n → Carries m n
     go true t e =
         let p = and_both (m.good && eqb m.kind numbered_kind) (leb 5 (length m.payload)) t in
         let q = and_both m.good (eqb m.kind numbered_kind) p.0 in
@@ -58,7 +56,7 @@ carries m n e = go (m.good && eqb m.kind numbered_kind && leb 5 (length m.payloa
     go false t e = let z : ◌≡◌ {A = ℕ} 0 1 = cc in absurd (omega arith)
 
 module _ {P : Type 0} (access : Access P) (rights : Rights) (x : State P) where
-  abbrev last : Stored
+  abbrev last : Option ℕ
   last = access.last_number x.page
 
   numbered_not_allowed : (payload : List ℕ) → rights.readonly ≡ true → numbered_outcome access rights x payload ≡ refused_outcome (get_or (inner_payload payload) 0 0) 7 x
@@ -145,7 +143,7 @@ save_keeps_number page s x = writing-number (with_value (values_in page) s x) pa
     same_number Gyroscope = refl
 
 -- A number put in on a sound page is the one that it keeps.
-pub put_number_lem : (page : List ℕ) (n : ℕ) → sound page ≡ true → n < 4294967296 → number_on (spent_on page n) ≡ Value n
+pub put_number_lem : (page : List ℕ) (n : ℕ) → sound page ≡ true → n < 4294967296 → number_on (spent_on page n) ≡ Some n
 put_number_lem page n h l =
     let k : key_storable last_number n ≡ true = lt-ltb n 4294967296 l in
     ap number_on (page_changes page last_number n h k).put_page_lem ∙ ap (λ (v : Values). v.number) (put_keeps page last_number n h k).values
@@ -156,8 +154,8 @@ module _ (rights : Rights) where
   field_keeps_number x c = go (effect_of (denial_of page_access rights x.page) (loaded_from x.page) x.settings c).saves
     where
       go : (saves : Option Setting) → number_on (page_after saved_on saves x.settings x.page) ≡ number_on x.page
-      go none = refl
-      go (some s) = save_keeps_number x.page s (working_value x.settings s)
+      go None = refl
+      go (Some s) = save_keeps_number x.page s (working_value x.settings s)
 
   -- So one look at the number serves all fields.
   pub fields_denied : (x : State (List ℕ)) (cs : List Command) → fields_outcome page_access rights x cs ≡ fields_with (denial_of page_access rights x.page) x cs
@@ -166,7 +164,7 @@ module _ (rights : Rights) where
   fields_denied x (c ∷ cs) =
       let o = field_outcome page_access rights x c in
       let same : denial_of page_access rights o.next.page ≡ denial_of page_access rights x.page =
-      ap (λ (n : Stored). refuse rights.readonly 7 (refuse (rights.guarded && is_there n) 5 0)) (field_keeps_number x c) in
+      ap (λ (n : Option ℕ). refuse rights.readonly 7 (refuse (rights.guarded && is_there n) 5 0)) (field_keeps_number x c) in
       ap (then_outcome o) (fields_denied o.next cs ∙ ap (λ (d : ℕ). fields_with d o.next cs) same)
 
   fields_keep_number : (x : State (List ℕ)) (cs : List Command) → number_on (fields_outcome page_access rights x cs).next.page ≡ number_on x.page
@@ -183,23 +181,23 @@ module _ (rights : Rights) where
       go zero = fields_keep_number x (commands_of kind (fields_in (fields_of payload)))
       go (suc n) = refl
 
-none_allowed : (rights : Rights) → allowed_number rights none ≡ none
+none_allowed : (rights : Rights) → allowed_number rights None ≡ None
 none_allowed rights = go rights.readonly
   where
-    go : (r : Bool) → ◌≡◌ {A = Option ℕ} (cond r none none) none
+    go : (r : Bool) → ◌≡◌ {A = Option ℕ} (cond r None None) None
     go true = refl
     go false = refl
 
 module _ (rights : Rights) (x : State (List ℕ)) (payload : List ℕ) where
   numbered_keeps : rights.readonly ≡ false → sound x.page ≡ true → 5 ≤ length payload
-      → number_on (numbered_outcome page_access rights x payload).next.page ≡ kept_on (some (number_of payload)) (number_on x.page)
+      → number_on (numbered_outcome page_access rights x payload).next.page ≡ kept_on (Some (number_of payload)) (number_on x.page)
   numbered_keeps o h l = go (is_fresh (number_on x.page) (number_of payload)) refl
     where
       after : State (List ℕ)
       after = spent page_access x (number_of payload)
 
       go : (b : Bool) → is_fresh (number_on x.page) (number_of payload) ≡ b
-          → number_on (numbered_outcome page_access rights x payload).next.page ≡ kept_on (some (number_of payload)) (number_on x.page)
+          → number_on (numbered_outcome page_access rights x payload).next.page ≡ kept_on (Some (number_of payload)) (number_on x.page)
       go true f =
           rw (numbered-fresh page_access rights x payload o l f, f)
           (command_keeps_number all_rights after (inner_kind payload) (inner_payload payload) ∙ put_number_lem x.page (number_of payload) h (number_small payload))
@@ -226,24 +224,24 @@ number-kept rights x m h =
     kept true true false true gs ks rs ls =
         rw (gs, ks, ls)
         (numbered_keeps rights x m.payload rs h (leb-true 5 (length m.payload) ls)
-        ∙ sym (ap (λ (r : Bool). kept_on (cond r none (some (number_of m.payload))) (number_on x.page)) rs))
+        ∙ sym (ap (λ (r : Bool). kept_on (cond r None (Some (number_of m.payload))) (number_on x.page)) rs))
 
 -- ---- a page without a number
 
-field_unguarded : (x : State (List ℕ)) (c : Command) → number_on x.page ≡ Absent → field_outcome page_access guarded_rights x c ≡ field_outcome page_access all_rights x c
+field_unguarded : (x : State (List ℕ)) (c : Command) → number_on x.page ≡ None → field_outcome page_access guarded_rights x c ≡ field_outcome page_access all_rights x c
 unfolding field_outcome
 field_unguarded x c e = rw e
 
-fields_unguarded : (x : State (List ℕ)) (cs : List Command) → number_on x.page ≡ Absent
+fields_unguarded : (x : State (List ℕ)) (cs : List Command) → number_on x.page ≡ None
     → fields_outcome page_access guarded_rights x cs ≡ fields_outcome page_access all_rights x cs
 unfolding fields_outcome
 fields_unguarded x [] e = refl
 fields_unguarded x (c ∷ cs) e =
     let o = field_outcome page_access all_rights x c in
-    let a : number_on o.next.page ≡ Absent = field_keeps_number all_rights x c ∙ e in
+    let a : number_on o.next.page ≡ None = field_keeps_number all_rights x c ∙ e in
     rw (field_unguarded x c e) (ap (then_outcome o) (fields_unguarded o.next cs a))
 
-command_unguarded : (x : State (List ℕ)) (kind : ℕ) (payload : List ℕ) → number_on x.page ≡ Absent
+command_unguarded : (x : State (List ℕ)) (kind : ℕ) (payload : List ℕ) → number_on x.page ≡ None
     → command_outcome page_access guarded_rights x kind payload ≡ command_outcome page_access all_rights x kind payload
 unfolding command_outcome
 command_unguarded x kind payload e = go (command_error kind payload)
@@ -263,15 +261,15 @@ without_number x m e = rw (command_unguarded x m.kind m.payload e, numbered_ungu
 -- ---- a page with a number, where one is needed
 
 module _ (kept : ℕ) where
-  command_left : (x : State (List ℕ)) (kind : ℕ) (payload : List ℕ) → number_on x.page ≡ Value kept → Leaves x (command_outcome page_access guarded_rights x kind payload)
+  command_left : (x : State (List ℕ)) (kind : ℕ) (payload : List ℕ) → number_on x.page ≡ Some kept → Leaves x (command_outcome page_access guarded_rights x kind payload)
   command_left x kind payload e = command_leaves page_access guarded_rights x kind payload 4 (rw e)
 
-  numbered_left : (x : State (List ℕ)) (payload : List ℕ) → number_on x.page ≡ Value kept
-      → carries_fresh (Value kept) (cond (leb 5 (length payload)) (some (number_of payload)) none) ≡ false → Leaves x (numbered_outcome page_access guarded_rights x payload)
+  numbered_left : (x : State (List ℕ)) (payload : List ℕ) → number_on x.page ≡ Some kept
+      → carries_fresh (Some kept) (cond (leb 5 (length payload)) (Some (number_of payload)) None) ≡ false → Leaves x (numbered_outcome page_access guarded_rights x payload)
   unfolding numbered_outcome number_error
   numbered_left x payload e f = go (leb 5 (length payload)) refl f
     where
-      go : (l : Bool) → leb 5 (length payload) ≡ l → carries_fresh (Value kept) (cond l (some (number_of payload)) none) ≡ false
+      go : (l : Bool) → leb 5 (length payload) ≡ l → carries_fresh (Some kept) (cond l (Some (number_of payload)) None) ≡ false
           → Leaves x (numbered_outcome page_access guarded_rights x payload)
       go false l f = rw (lt-ltb (length payload) 5 (leb-false 5 (length payload) l)) (record { next = refl; unmarked = refl })
       go true l f = rw (numbered_stale page_access guarded_rights x payload refl (leb-true 5 (length payload) l) (rw e f)) (record { next = refl; unmarked = refl })
@@ -284,6 +282,6 @@ number_guards x m kept e f = go m.good (eqb m.kind numbered_kind) refl refl
     go false k gs ks = record { next = rw gs; unmarked = rw gs }
     go true false gs ks = let l = command_left kept x m.kind m.payload e in record { next = rw (gs, ks) l.next; unmarked = rw (gs, ks) l.unmarked }
     go true true gs ks =
-        let c : carried m ≡ cond (leb 5 (length m.payload)) (some (number_of m.payload)) none = rw (gs, ks) in
-        let l = numbered_left kept x m.payload e (subst (λ (c : Option ℕ). carries_fresh (Value kept) c ≡ false) c f) in
+        let c : carried m ≡ cond (leb 5 (length m.payload)) (Some (number_of m.payload)) None = rw (gs, ks) in
+        let l = numbered_left kept x m.payload e (subst (λ (c : Option ℕ). carries_fresh (Some kept) c ≡ false) c f) in
         record { next = rw (gs, ks) l.next; unmarked = rw (gs, ks) l.unmarked }

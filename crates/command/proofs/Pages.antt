@@ -4,15 +4,13 @@ use native.Mathlib.Omega.{arith}
 use mathlib.Core.Path.{◌≡◌, refl, ◌∙◌, ap, subst}
 use mathlib.Core.Bool.{Bool, true, false, ◌||◌, not, cond, or-false}
 use mathlib.Core.List.{List, [], ◌∷◌, ◌++◌}
-use mathlib.Core.Option.{Option, none, some}
+use Rattle.std.specs.Prelude.{Option, Some, None}
 use lib.Dec.{eqb, leb, ltb}
 use lib.ListN.{length, get_or, drop, length-drop, get_or-append}
 use lib.Seq.{drop-append-le, take-append-le}
 use borrow.Author.Tests.{le-ltb, lt-ltb, eq-eqb, ne_eqb, le-leb}
 use Rattle.page.specs.declared.setting.Setting.{Setting}
 use Rattle.page.specs.declared.setting.Setting.TheVariants.{Baud, Accelerometer, Gyroscope}
-use Rattle.page.specs.declared.setting.Stored.{Stored}
-use Rattle.page.specs.declared.setting.Stored.TheVariants.{Absent, Value}
 use Rattle.page.specs.declared.setting.Values.{Values}
 use Rattle.page.specs.Settings.{usable, storable, not_on_this_board, value_bytes, factory_value, value_of, last_number}
 use Rattle.page.specs.Page.{is_there, stored_in, all_storable, with_key, writing, page_size}
@@ -52,9 +50,9 @@ looked_up_stored page s h =
     let l = looks_up_stored page s h in
     rw l.body (body_back s (value_or (stored_in (values_in page) s) (factory_value s)) l.value_storable)
 
-load_of : (s : Setting) (b : Stored) → if_usable s (value_or b (factory_value s)) ≡ loaded_value s b
-load_of s Absent = rw (factory_usable s)
-load_of s (Value x) = refl
+load_of : (s : Setting) (b : Option ℕ) → if_usable s (value_or b (factory_value s)) ≡ loaded_value s b
+load_of s None = rw (factory_usable s)
+load_of s (Some x) = refl
 
 pub loads_stored : LoadsStored
 unfolding loaded_from
@@ -64,7 +62,7 @@ pub loads_usable : LoadsUsable
 unfolding loaded_from
 loads_usable page s x e = go (usable s (looked_up page s)) refl e
   where
-    go : (b : Bool) → usable s (looked_up page s) ≡ b → value_on b (looked_up page s) ≡ Value x → usable s x ≡ true
+    go : (b : Bool) → usable s (looked_up page s) ≡ b → value_on b (looked_up page s) ≡ Some x → usable s x ≡ true
     go true u e = let q : looked_up page s ≡ x = cc in subst (λ (y : ℕ). usable s y ≡ true) q u
     go false u e = let z : ◌≡◌ {A = ℕ} 0 1 = cc in absurd (omega arith)
 
@@ -77,7 +75,7 @@ start_working page Accelerometer = refl
 start_working page Gyroscope = refl
 
 -- What is loaded from a sound page, by what it holds.
-loads_held : (page : List ℕ) (s : Setting) → sound page ≡ true → {b : Stored} → stored_in (values_in page) s ≡ b → loaded_from page s ≡ loaded_value s b
+loads_held : (page : List ℕ) (s : Setting) → sound page ≡ true → {b : Option ℕ} → stored_in (values_in page) s ≡ b → loaded_from page s ≡ loaded_value s b
 loads_held page s h e = loads_stored page s h ∙ ap (loaded_value s) e
 
 pub start_takes : StartsTake
@@ -124,7 +122,7 @@ module _ (rights : Rights) (x : State (List ℕ)) (c : Command) (s : Setting) wh
     unfolding error field_error field_wrong
     error_four = rw (a.about, a.free, a.size, a.function_is)
 
-    loaded_with : (v : ℕ) → loaded_from x.page s ≡ Value v → field_outcome page_access rights x c ≡ working x c s v
+    loaded_with : (v : ℕ) → loaded_from x.page s ≡ Some v → field_outcome page_access rights x c ≡ working x c s v
     unfolding field_outcome error
     loaded_with v l =
         let e : error ≡ 0 = error_four ∙ rw l in
@@ -188,8 +186,8 @@ record SavedAs (saves : Option Setting) (w : Settings) (page : List ℕ) : Type 
   mark : is_save saves ≡ not (is_empty (save_puts saves w))
 
 saved_as : (saves : Option Setting) (w : Settings) (page : List ℕ) → sound page ≡ true → settings_usable w ≡ true → SavedAs saves w page
-saved_as none w page h a = record { stays = h; written = refl; mark = refl }
-saved_as (some s) w page h a =
+saved_as None w page h a = record { stays = h; written = refl; mark = refl }
+saved_as (Some s) w page h a =
     let k = save_changes page s (working_value w s) h (value_usable w s a) in
     record { stays = k.sound_page; written = k.put_page_lem; mark = refl }
 
@@ -211,7 +209,7 @@ unfolding field_outcome effect_of
 field_keeps rights x c h a =
     record {
       saved = λ s so.
-          (let e : effect.saves ≡ some s = saves_then denial (loaded_from x.page) x.settings c s so in
+          (let e : effect.saves ≡ Some s = saves_then denial (loaded_from x.page) x.settings c s so in
           (rw e, rw e (save_changes x.page s (working_value x.settings s) h (value_usable x.settings s a)).put_page_lem));
       unsaved = λ n. go n effect.saves refl;
     }
@@ -224,8 +222,8 @@ field_keeps rights x c h a =
 
     go : ((s : Setting) → SaveOf denial (loaded_from x.page) c s → ⊥) → (saves : Option Setting) → effect.saves ≡ saves
         → (is_save effect.saves ≡ false) × (page_after saved_on effect.saves x.settings x.page ≡ x.page)
-    go n none e = (rw e, rw e)
-    go n (some s) e = absurd (n s (saves_only denial (loaded_from x.page) x.settings c s e))
+    go n None e = (rw e, rw e)
+    go n (Some s) e = absurd (n s (saves_only denial (loaded_from x.page) x.settings c s e))
 
 idle_goes : (x : State (List ℕ)) → Sound x → (rows : List ℕ) → Goes x.page [] (record { rows = rows; saved = false; next = x })
 idle_goes x k rows = record { stays = k; written = refl; mark = refl }

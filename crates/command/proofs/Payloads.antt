@@ -44,13 +44,15 @@ module _ (held chunk : List ℕ) where
   -- ---- the bytes from one place to another
 
   module _ (from to : ℕ) where
-    pub echo_there : (r : ℕ) → from < to → r ≡ get_or (held ++ chunk) from 0 → r ≡ get_or (drop from (take to (held ++ chunk))) 0 0
-    echo_there r h e =
-        let z : from + 0 ≡ from = omega arith in
-        data_there (held ++ chunk) from (to - from) 0 r (omega arith) (rw z e) ∙ ap (λ (l : List ℕ). get_or l 0 0) (sym (drop-take from to (held ++ chunk)))
+    pub payload_there : (i r : ℕ) → from + i < to → r ≡ get_or (held ++ chunk) (from + i) 0 → r ≡ get_or (drop from (take to (held ++ chunk))) i 0
+    payload_there i r h e =
+        data_there (held ++ chunk) from (to - from) i r (omega arith) e ∙ ap (λ (l : List ℕ). get_or l i 0) (sym (drop-take from to (held ++ chunk)))
 
-    pub echo_none : to ≤ from → 0 ≡ get_or (drop from (take to (held ++ chunk))) 0 0
-    echo_none h = data_none (held ++ chunk) from (to - from) 0 (omega arith) ∙ ap (λ (l : List ℕ). get_or l 0 0) (sym (drop-take from to (held ++ chunk)))
+    pub payload_none : (i : ℕ) → to ≤ from + i → 0 ≡ get_or (drop from (take to (held ++ chunk))) i 0
+    payload_none i h = data_none (held ++ chunk) from (to - from) i (omega arith) ∙ ap (λ (l : List ℕ). get_or l i 0) (sym (drop-take from to (held ++ chunk)))
+
+    pub payload_long : from ≤ to → to ≤ from + (length held + length chunk - from) → to - from ≡ length (drop from (take to (held ++ chunk)))
+    payload_long low high = rw (length-drop, length-take, all_long) (omega arith)
 
     -- ---- the error of a command as a whole
 

@@ -4,11 +4,10 @@ use native.Mathlib.Omega.{arith}
 use mathlib.Core.Path.{◌≡◌, refl, sym, ap, subst}
 use mathlib.Core.Bool.{Bool, true, false, ◌&&◌, ◌||◌, not, cond}
 use mathlib.Core.List.{List, [], ◌∷◌}
-use mathlib.Core.Option.{none}
+use Rattle.std.specs.Prelude.{Option, None}
 use lib.Dec.{eqb}
 use borrow.Author.Tests.{eq-eqb, ne_eqb, eqb-true, not-true, not-false}
 use Rattle.page.specs.declared.setting.Setting.{Setting}
-use Rattle.page.specs.declared.setting.Stored.{Stored}
 use Rattle.message.specs.Fields.{fields_of}
 use Rattle.message.specs.Whole.{refuse}
 use Rattle.stream.proofs.Bools.{and_both, differ, or_neither}
@@ -29,10 +28,10 @@ use Rattle.command.specs.ReadOnly.{ReadOnlyLeaves, FieldsReadOnly, MessagesReadO
 
 -- ---- one field
 
-module _ (loaded : Setting → Stored) (w : Settings) (c : Command) where
+module _ (loaded : Setting → Option ℕ) (w : Settings) (c : Command) where
   record Still (e : Effect) : Type 0 where
     same_settings : e.settings ≡ w
-    no_save : e.saves ≡ none
+    no_save : e.saves ≡ None
 
   -- An accepted function that is none of 1, 3, 4 and 5 reads.
   reads_only : (s : Setting) → alters (About s) c ≡ false → field_wrong (About s) c ≡ false → Still (field_effect (About s) loaded w c)

@@ -7,7 +7,7 @@ use mathlib.Core.List.{List, [], ◌∷◌}
 use lib.Dec.{eqb}
 use lib.ListN.{length, get_or, length-append}
 use Rattle.page.specs.declared.setting.Setting.{Setting}
-use Rattle.page.specs.declared.setting.Stored.{Stored}
+use Rattle.std.specs.Prelude.{Option}
 use Rattle.page.specs.declared.setting.Setting.TheVariants.{Baud, Accelerometer, Gyroscope}
 use Rattle.message.specs.Fields.{Field, fields_of}
 use Rattle.command.specs.declared.rights.Rights.{Rights}
@@ -31,7 +31,7 @@ row_most Baud x = omega arith
 row_most Accelerometer x = omega arith
 row_most Gyroscope x = omega arith
 
-pub function_row : (f : ℕ) (loaded : Setting → Stored) (w : Settings) (s : Setting) (x : ℕ) → length (function_effect f loaded w s x).report ≤ 6
+pub function_row : (f : ℕ) (loaded : Setting → Option ℕ) (w : Settings) (s : Setting) (x : ℕ) → length (function_effect f loaded w s x).report ≤ 6
 function_row zero loaded w s x = omega arith
 function_row (suc zero) loaded w s x = omega arith
 function_row (suc (suc zero)) loaded w s x = row_most s (working_value w s)
@@ -39,12 +39,12 @@ function_row (suc (suc (suc zero))) loaded w s x = omega arith
 function_row (suc (suc (suc (suc zero)))) loaded w s x = omega arith
 function_row (suc (suc (suc (suc (suc f))))) loaded w s x = omega arith
 
-field_row : (subject : Subject) (loaded : Setting → Stored) (w : Settings) (c : Command) → length (field_effect subject loaded w c).report ≤ 6
+field_row : (subject : Subject) (loaded : Setting → Option ℕ) (w : Settings) (c : Command) → length (field_effect subject loaded w c).report ≤ 6
 field_row Ping loaded w c = omega arith
 field_row (About s) loaded w c = function_row c.function loaded w s (value_for s c)
 field_row Unknown loaded w c = omega arith
 
-pub effect_row : (denial : ℕ) (loaded : Setting → Stored) (w : Settings) (c : Command) → length (effect_of denial loaded w c).report ≤ 6
+pub effect_row : (denial : ℕ) (loaded : Setting → Option ℕ) (w : Settings) (c : Command) → length (effect_of denial loaded w c).report ≤ 6
 unfolding effect_of
 effect_row denial loaded w c = go (field_error denial loaded c)
   where

@@ -11,7 +11,7 @@ use borrow.Author.Tests.{ne_eqb}
 use lib.ListN.{length, get_or, length-append, length-take}
 use Rattle.page.specs.Settings.{setting_of}
 use Rattle.page.specs.declared.setting.Setting.{Setting}
-use Rattle.page.specs.declared.setting.Stored.{Stored}
+use Rattle.std.specs.Prelude.{Option}
 use Rattle.message.specs.Fields.{Field, field_bytes, row_bytes, SizesRight, fields_of}
 use Rattle.message.specs.Message.{message_of, type_of, payload_of}
 use Rattle.message.specs.Theorems.{RoundTrip}
@@ -160,7 +160,7 @@ unfolding command_of fields_of
 sixteen_are = refl
 
 -- A report is allowed to all.
-report_right : (denial : ℕ) (loaded : Setting → Stored) → field_error denial loaded report ≡ 0
+report_right : (denial : ℕ) (loaded : Setting → Option ℕ) → field_error denial loaded report ≡ 0
 unfolding field_error field_wrong subject_of setting_of
 report_right denial loaded = rw (and-false (nonzero denial))
 

@@ -9,29 +9,13 @@ use lib.ListN.{length, get_or, take, drop, length-append, length-drop, length-ta
 use lib.Seq.{drop-drop}
 use borrow.Author.Tests.{eq-eqb, ne_eqb, lt-ltb, le-ltb, ltb-false}
 use Rattle.word.specs.Word.{number, word}
-use Rattle.page.specs.declared.setting.Stored.{Stored}
-use Rattle.page.specs.declared.setting.Stored.TheVariants.{Absent, Value}
-use Rattle.page.specs.Page.{is_there}
+use Rattle.std.specs.Prelude.{Option}
 use Rattle.command.specs.declared.rights.Rights.{Rights}
 use Rattle.command.specs.Numbers.{numbered_kind, number_of, inner_kind, inner_payload, is_fresh, number_error}
 use Rattle.command.specs.Answer.{spent_on, number_on}
 use Rattle.command.specs.declared.number.Opened.{Opened}
 use Rattle.command.specs.Place.{Opening, opening, number_opening, opening_of}
-use Rattle.command.proofs.Rests.{drop-take}
-use Rattle.command.proofs.Subjects.{data_there}
 use Rattle.command.proofs.Tests.{none-refused}
-
--- ---- a kept number
-
-module _ (last : Stored) where
-  pub there_none : last ≡ Absent → (kept : Stored) → last ≡ kept → false ≡ is_there kept
-  there_none e kept h = rw (← h, e)
-
-  pub there_some : (x : ℕ) → last ≡ Value x → (kept : Stored) → last ≡ kept → true ≡ is_there kept
-  there_some x e kept h = rw (← h, e)
-
-  pub fresh_later : (n x : ℕ) → last ≡ Value x → ltb x n ≡ is_fresh last n
-  fresh_later n x e = rw e
 
 -- ---- the bytes of the number
 
@@ -42,62 +26,43 @@ four (a ∷ b ∷ []) h = absurd (omega arith)
 four (a ∷ b ∷ c ∷ []) h = absurd (omega arith)
 four (a ∷ b ∷ c ∷ d ∷ l) h = refl
 
-module _ (held chunk : List ℕ) (to : ℕ) where
-  abbrev payload : List ℕ
-  payload = drop 4 (take to (held ++ chunk))
-
-  payload_byte : (i r : ℕ) → i < to - 4 → r ≡ get_or (held ++ chunk) (4 + i) 0 → r ≡ get_or payload i 0
-  payload_byte i r h e = data_there (held ++ chunk) 4 (to - 4) i r h e ∙ ap (λ (l : List ℕ). get_or l i 0) (sym (drop-take 4 to (held ++ chunk)))
-
-  size : length payload ≡ min to (length held + length chunk) - 4
-  size = rw (length-drop, length-take, length-append held chunk)
-
-  pub number_read : (a b c d : ℕ) → 8 ≤ to → 8 ≤ length held + length chunk
-      → a ≡ get_or (held ++ chunk) 4 0 → b ≡ get_or (held ++ chunk) 5 0 → c ≡ get_or (held ++ chunk) 6 0 → d ≡ get_or (held ++ chunk) 7 0
+module _ (payload : List ℕ) where
+  pub number_read : (a b c d : ℕ) → 4 ≤ length payload → a ≡ get_or payload 0 0 → b ≡ get_or payload 1 0 → c ≡ get_or payload 2 0 → d ≡ get_or payload 3 0
       → a < 256 → b < 256 → c < 256 → d < 256 → (r : ℕ) → r ≡ word a b c d → r ≡ number_of payload
-  number_read a b c d h l as' bs cs ds ak bk ck dk r e =
-      let f : take 4 payload ≡ get_or payload 0 0 ∷ get_or payload 1 0 ∷ get_or payload 2 0 ∷ get_or payload 3 0 ∷ [] = four payload (omega (arith, size)) in
-      let n : number (take 4 payload) ≡ word a b c d =
-      ap number f ∙ rw (← (payload_byte 0 a (omega arith) as'), ← (payload_byte 1 b (omega arith) bs), ← (payload_byte 2 c (omega arith) cs), ← (payload_byte 3 d (omega arith) ds)) (omega arith) in
+  number_read a b c d h as' bs cs ds ak bk ck dk r e =
+      let n : number (take 4 payload) ≡ word a b c d = ap number (four payload h) ∙ rw (← as', ← bs, ← cs, ← ds) (omega arith) in
       rw n (omega arith)
 
   -- ---- its error
 
-  module _ (rights : Rights) (last : Stored) where
+  module _ (rights : Rights) (last : Option ℕ) where
     pub number_not_allowed : rights.readonly ≡ true → 7 ≡ number_error rights last payload
     unfolding number_error
     number_not_allowed h = rw h
 
-    pub number_short : rights.readonly ≡ false → to < 9 → 4 ≡ number_error rights last payload
-    unfolding number_error
-    number_short e h = rw (e, lt-ltb (length payload) 5 (omega (arith, size)))
-
-    module _ (allowed-here : rights.readonly ≡ false) (long : 9 ≤ to) (there : to ≤ 4 + (length held + length chunk - 4)) (n : ℕ) (ns : n ≡ number_of payload) (kept : Stored) (ks : kept ≡ last)
-        (f : Bool) (fs : f ≡ is_fresh kept n) where
-      pub number-fresh : f ≡ true → 0 ≡ number_error rights last payload
+    module _ (allowed-here : rights.readonly ≡ false) (many : ℕ) (ms : many ≡ length payload) where
+      pub number_short : many < 5 → 4 ≡ number_error rights last payload
       unfolding number_error
-      number-fresh e = rw (allowed-here, le-ltb (length payload) 5 (omega (arith, size)), ← ns, ← ks, ← fs, e)
+      number_short h = rw (allowed-here, lt-ltb (length payload) 5 (omega arith))
 
-      pub number_stale : f ≡ false → 5 ≡ number_error rights last payload
-      unfolding number_error
-      number_stale e = rw (allowed-here, le-ltb (length payload) 5 (omega (arith, size)), ← ns, ← ks, ← fs, e)
+      module _ (long : 5 ≤ many) (n : ℕ) (ns : n ≡ number_of payload) (kept : Option ℕ) (ks : kept ≡ last) (f : Bool) (fs : f ≡ is_fresh kept n) where
+        pub number-fresh : f ≡ true → 0 ≡ number_error rights last payload
+        unfolding number_error
+        number-fresh e = rw (allowed-here, le-ltb (length payload) 5 (omega arith), ← ns, ← ks, ← fs, e)
+
+        pub number_stale : f ≡ false → 5 ≡ number_error rights last payload
+        unfolding number_error
+        number_stale e = rw (allowed-here, le-ltb (length payload) 5 (omega arith), ← ns, ← ks, ← fs, e)
 
     -- A number without error is there, with a type behind it.
-    pub number_there : (error : ℕ) → error ≡ number_error rights last payload → error ≡ 0 → to ≤ 4 + (length held + length chunk - 4)
-        → (9 ≤ to) × (9 ≤ length held + length chunk) × (to ≤ 9 + (length held + length chunk - 9))
+    pub number_there : (error : ℕ) → error ≡ number_error rights last payload → error ≡ 0 → 5 ≤ length payload
     unfolding number_error
-    number_there error es z h =
-        let e : ltb (length payload) 5 ≡ false = (none-refused (ltb (length payload) 5) 3 _ (none-refused rights.readonly 6 _ (sym es ∙ z)).1).0 in
-        let l : 5 ≤ length payload = ltb-false (length payload) 5 e in
-        (omega (arith, size), omega (arith, size), omega (arith, size))
+    number_there error es z =
+        ltb-false (length payload) 5 (none-refused (ltb (length payload) 5) 3 _ (none-refused rights.readonly 6 _ (sym es ∙ z)).1).0
 
-  -- ---- the command inside
-
-  pub inner_kind_lem : (k : ℕ) → 9 ≤ to → k ≡ get_or (held ++ chunk) 8 0 → k ≡ inner_kind payload
-  inner_kind_lem k h e = payload_byte 4 k (omega arith) e
-
-  pub inner_payload_lem : drop 9 (take to (held ++ chunk)) ≡ inner_payload payload
-  inner_payload_lem = sym (drop-drop 5 4 (take to (held ++ chunk)))
+-- The command inside.
+pub inner_payload_lem : (held chunk : List ℕ) (to : ℕ) → drop 9 (take to (held ++ chunk)) ≡ inner_payload (drop 4 (take to (held ++ chunk)))
+inner_payload_lem held chunk to = sym (drop-drop 5 4 (take to (held ++ chunk)))
 
 -- ---- a message opened
 
@@ -142,7 +107,10 @@ open_fits held chunk to rights good kind page low high z e =
         → ((number_opening n kind (drop 4 (take to (held ++ chunk))) page).opened.from ≤ to)
         × (to ≤ (number_opening n kind (drop 4 (take to (held ++ chunk))) page).opened.from
         + (length held + length chunk - (number_opening n kind (drop 4 (take to (held ++ chunk))) page).opened.from))
-    number_fits zero h q = let t = number_there held chunk to rights (number_on page) 0 (sym h) refl high in (t.0, t.2)
+    number_fits zero h q =
+        let t : 5 ≤ length (drop 4 (take to (held ++ chunk))) = number_there _ rights (number_on page) 0 (sym h) refl in
+        let size : length (drop 4 (take to (held ++ chunk))) ≡ min to (length held + length chunk) - 4 = rw (length-drop, length-take, length-append held chunk) in
+        (omega arith, omega arith)
     number_fits (suc n) h q = absurd (omega arith)
 
     go : (a b : Bool)

@@ -4,14 +4,14 @@ use native.Mathlib.Omega.{arith}
 use mathlib.Core.Path.{◌≡◌, refl, sym, ◌∙◌}
 use mathlib.Core.Bool.{Bool, true, false, ◌&&◌, ◌||◌, not, or-false, and-true}
 use mathlib.Core.List.{List, [], ◌∷◌}
-use mathlib.Core.Option.{Option, none, some}
+use mathlib.Core.Option.{Option as Maybe, none, some}
 use lib.Dec.{eqb, leb, ltb}
 use lib.ListN.{length, take}
 use Rattle.stream.proofs.Bools.{differ}
 use borrow.Author.Tests.{eq-eqb, ne_eqb, le-leb, lt-leb, le-ltb, lt-ltb, leb-true, leb-false, not-true, not-false, ltb-false}
 use Rattle.page.specs.declared.setting.Setting.{Setting}
 use Rattle.page.specs.declared.setting.Setting.TheVariants.{Baud, Accelerometer, Gyroscope}
-use Rattle.page.specs.declared.setting.Stored.{Stored}
+use Rattle.std.specs.Prelude.{Option}
 use Rattle.page.specs.Settings.{usable, storable, not_on_this_board, value_size}
 use Rattle.page.specs.Page.{is_there}
 use Rattle.page.proofs.Pages.{usable-storable}
@@ -27,7 +27,7 @@ use Rattle.command.specs.Errors.{is_unknown, is_function, size_right, function_r
 use Rattle.command.specs.Handle.{fields_in}
 use Rattle.command.specs.Effects.{settings_usable}
 use Rattle.command.specs.Outcome.{denial_of}
-use Rattle.command.specs.Answer.{number_on, page_access}
+use Rattle.command.specs.Answer.{page_access}
 
 -- ---- the size
 
@@ -49,7 +49,7 @@ size_most Accelerometer = omega arith
 size_most Gyroscope = omega arith
 
 -- Its own error: 4, then 6.
-abbrev pub own_error : Subject → (Setting → Stored) → Command → ℕ
+abbrev pub own_error : Subject → (Setting → Option ℕ) → Command → ℕ
 own_error subject loaded c = refuse (field_wrong subject c) 4 (refuse (not_on_board subject loaded c) 6 0)
 
 -- Its size and its function.
@@ -78,7 +78,7 @@ module _ (s : Setting) (c : Command) (v n : ℕ) (vs : v ≡ value_size s) (ns :
             go true e = rw (e, le-ltb m n (leb-true n m e))
             go false e = rw (e, lt-ltb m n (leb-false n m e))
 
-module _ (loaded : Setting → Stored) (s : Setting) (c : Command) (m : Bool) (ms : m ≡ malformed s c) where
+module _ (loaded : Setting → Option ℕ) (s : Setting) (c : Command) (m : Bool) (ms : m ≡ malformed s c) where
   pub own_malformed : m ≡ true → 4 ≡ own_error (About s) loaded c
   unfolding field_wrong
   own_malformed e = rw (← ms, e)
@@ -116,16 +116,18 @@ module _ (s : Setting) (x : ℕ) (a : Bool) (as' : a ≡ usable s x) where
 
 -- ---- any field
 
-module _ (subject : Subject) (loaded : Setting → Stored) (c : Command) where
-  pub own_ping : subject ≡ Ping → (r : ℕ) → r ≡ refuse (not (eqb c.size 0)) 4 0 → r ≡ own_error subject loaded c
+abbrev pub undenied_error : Subject → (Setting → Option ℕ) → Command → ℕ
+undenied_error subject loaded c = refuse (is_unknown subject) 3 (own_error subject loaded c)
+
+module _ (subject : Subject) (loaded : Setting → Option ℕ) (c : Command) where
+  pub own_ping : subject ≡ Ping → (r : ℕ) → r ≡ refuse (not (eqb c.size 0)) 4 0 → r ≡ undenied_error subject loaded c
   unfolding field_wrong
   own_ping e r h = h ∙ rw (e, or-false, or-false)
 
-  pub own_setting : (s : Setting) → subject ≡ About s → (r : ℕ) → r ≡ own_error (About s) loaded c → r ≡ own_error subject loaded c
+  pub own_setting : (s : Setting) → subject ≡ About s → (r : ℕ) → r ≡ own_error (About s) loaded c → r ≡ undenied_error subject loaded c
   own_setting s e r w = rw e w
 
-  pub own_unknown : subject ≡ Unknown → 4 ≡ own_error subject loaded c
-  unfolding field_wrong
+  pub own_unknown : subject ≡ Unknown → 3 ≡ undenied_error subject loaded c
   own_unknown e = rw e
 
 -- ---- functions 1, 3, 4 and 5
@@ -156,32 +158,27 @@ module _ (rights : Rights) (page : List ℕ) where
     pub denies_nothing : not rights.guarded ≡ true → 0 ≡ denial
     denies_nothing h = rw (e, not-true rights.guarded h)
 
-    module _ (g : not rights.guarded ≡ false) (kept : Bool) (is : kept ≡ is_there (number_on page)) where
-      pub denies_kept : kept ≡ true → 5 ≡ denial
-      denies_kept h = rw (e, not-false rights.guarded g, ← is, h)
-
-      pub denies_unkept : kept ≡ false → 0 ≡ denial
-      denies_unkept h = rw (e, not-false rights.guarded g, ← is, h)
-
 pub denied_asked : (denial : ℕ) (subject : Subject) (c : Command) → (denial ≡ 0 → ⊥) → (r : Bool) → r ≡ alters subject c → r ≡ denied denial subject c
 denied_asked zero subject c n r e = absurd (n refl)
 denied_asked (suc d) subject c n r e = e
 
+-- Only a code of its type is denied.
+denied_known : (denial : ℕ) (subject : Subject) (c : Command) → denied denial subject c ≡ true → is_unknown subject ≡ false
+denied_known n Ping c e = refl
+denied_known n (About s) c e = refl
+denied_known zero Unknown c e = differ (sym e)
+denied_known (suc d) Unknown c e = differ (sym e)
+
 -- The field's error, with what it is about.
-module _ (denial : ℕ) (loaded : Setting → Stored) (c : Command) (subject : Subject) (is : subject ≡ subject_of c.kind c.code) (u : Bool)
-    (us : u ≡ is_unknown subject) where
-  pub error_unknown : u ≡ true → 3 ≡ field_error denial loaded c
+module _ (denial : ℕ) (loaded : Setting → Option ℕ) (c : Command) (subject : Subject) (is : subject ≡ subject_of c.kind c.code) (d : Bool)
+    (ds : d ≡ denied denial subject c) where
+  pub error_denied : d ≡ true → denial ≡ field_error denial loaded c
   unfolding field_error
-  error_unknown e = rw (← is, ← us, e)
+  error_denied e = rw (← is, denied_known denial subject c (sym ds ∙ e), ← ds, e)
 
-  module _ (known : u ≡ false) (d : Bool) (ds : d ≡ denied denial subject c) where
-    pub error_denied : d ≡ true → denial ≡ field_error denial loaded c
-    unfolding field_error
-    error_denied e = rw (← is, ← us, known, ← ds, e)
-
-    pub error_own : d ≡ false → (r : ℕ) → r ≡ own_error subject loaded c → r ≡ field_error denial loaded c
-    unfolding field_error
-    error_own e r rs = rs ∙ rw (← is, ← us, known, ← ds, e)
+  pub error_own : d ≡ false → (r : ℕ) → r ≡ undenied_error subject loaded c → r ≡ field_error denial loaded c
+  unfolding field_error
+  error_own e r rs = rs ∙ rw (← is, ← ds, e)
 
 -- ---- a command as a whole
 
@@ -235,7 +232,7 @@ command_passed kind payload e =
     }
 
 -- Fields that are not refused are at most 16.
-pub few_fields : (o : Option (List Field)) → fields_refused o ≡ false → length (fields_in o) ≤ 16
+pub few_fields : (o : Maybe (List Field)) → fields_refused o ≡ false → length (fields_in o) ≤ 16
 few_fields none e = differ e
 few_fields (some fs) e = ltb-false 16 (length fs) e
 
@@ -247,7 +244,7 @@ fields_some kind payload e =
     let p = command_passed kind payload e in
     go payload p.some (fields_past 0 payload) refl p.fit
   where
-    none_first : (f : Field) (o : Option (List Field)) → cons_field f o ≡ some [] → ⊥
+    none_first : (f : Field) (o : Maybe (List Field)) → cons_field f o ≡ some [] → ⊥
     none_first f none e = let z : ◌≡◌ {A = ℕ} 0 1 = cc in absurd (omega arith)
     none_first f (some fs) e = let z : ◌≡◌ {A = ℕ} 0 1 = cc in absurd (omega arith)
 
@@ -256,7 +253,7 @@ fields_some kind payload e =
     never_none (b ∷ []) s e = let z : ◌≡◌ {A = ℕ} 0 1 = cc in absurd (omega arith)
     never_none (b ∷ n ∷ bs) s e = none_first (record { code = b; size = n; content = take n bs }) (fields_past n bs) e
 
-    go : (payload : List ℕ) → eqb (length payload) 0 ≡ false → (o : Option (List Field)) → fields_past 0 payload ≡ o → fields_refused (fields_past 0 payload) ≡ false
+    go : (payload : List ℕ) → eqb (length payload) 0 ≡ false → (o : Maybe (List Field)) → fields_past 0 payload ≡ o → fields_refused (fields_past 0 payload) ≡ false
         → (1 ≤ length (fields_in (fields_past 0 payload))) × (length (fields_in (fields_past 0 payload)) ≤ 16)
     go payload s none e r = let b : true ≡ false = rw e at r in let z : ◌≡◌ {A = ℕ} 0 1 = cc in absurd (omega arith)
     go payload s (some []) e r = absurd (never_none payload s e)

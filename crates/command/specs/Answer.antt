@@ -1,9 +1,8 @@
 -- Document 01, "Handling one message", on the board: the answer to a message, with the reply room and the page afterwards.
-use Rattle.std.specs.Prelude.{Bool, true, false, ◌||◌, not, List, [], ℕ, eqb, ltb, length, get_or, take}
+use Rattle.std.specs.Prelude.{Bool, true, false, ◌||◌, not, List, [], ℕ, eqb, ltb, length, get_or, take, Option}
 use Rattle.word.specs.Word.{number}
 use Rattle.page.specs.declared.setting.Setting.{Setting}
 use Rattle.page.specs.declared.setting.Setting.TheVariants.{Baud, Accelerometer, Gyroscope}
-use Rattle.page.specs.declared.setting.Stored.{Stored}
 use Rattle.page.specs.Settings.{code_of, Key, value_of, last_number}
 use Rattle.page.specs.Page.{with_key, factory_page}
 use Rattle.page.specs.Lookup.{body_of, values_in}
@@ -32,7 +31,7 @@ unfoldable pub looked_up : List ℕ → Setting → ℕ
 looked_up page s = body_value s (body_of page factory_page (code_of s))
 
 -- A value that is not usable on this board is not loaded.
-unfoldable pub loaded_from : List ℕ → Setting → Stored
+unfoldable pub loaded_from : List ℕ → Setting → Option ℕ
 loaded_from page s = if_usable s (looked_up page s)
 
 -- The settings as starting sets them.
@@ -51,7 +50,7 @@ abbrev pub spent_on : List ℕ → ℕ → List ℕ
 spent_on page n = put_on page last_number n
 
 -- The last number accepted.
-abbrev pub number_on : List ℕ → Stored
+abbrev pub number_on : List ℕ → Option ℕ
 number_on page = (values_in page).number
 
 -- The board keeps a page, of 64 bytes.

@@ -1,10 +1,7 @@
 -- Document 01, "Handling one message": what an accepted command does.
-use Rattle.std.specs.Prelude.{Bool, ◌&&◌, List, [], ◌∷◌, ℕ, zero, suc, ◌<◌}
-use Rattle.std.proofs.Math.Option.{Option, none, some}
+use Rattle.std.specs.Prelude.{Bool, ◌&&◌, List, [], ◌∷◌, ℕ, zero, suc, ◌<◌, Option, Some, None}
 use Rattle.page.specs.declared.setting.Setting.{Setting}
 use Rattle.page.specs.declared.setting.Setting.TheVariants.{Baud, Accelerometer, Gyroscope}
-use Rattle.page.specs.declared.setting.Stored.{Stored}
-use Rattle.page.specs.declared.setting.Stored.TheVariants.{Absent, Value}
 use Rattle.page.specs.Settings.{code_of, usable, value_bytes, value_size, factory_value}
 use Rattle.page.specs.Loading.{value_or}
 use Rattle.command.specs.declared.settings.Settings.{Settings}
@@ -37,12 +34,12 @@ unfoldable pub settings_usable : Settings → Bool
 settings_usable w = usable Baud w.baud && usable Accelerometer w.accelerometer && usable Gyroscope w.gyroscope
 
 -- The settings with what is loaded; where that is nothing, the working value is left.
-abbrev pub loading : Settings → Setting → Stored → Settings
-loading w s Absent = w
-loading w s (Value x) = with_working w s x
+abbrev pub loading : Settings → Setting → Option ℕ → Settings
+loading w s None = w
+loading w s (Some x) = with_working w s x
 
 -- The settings as starting sets them, from what is loaded: the factory value where that is nothing.
-unfoldable pub start_settings : (Setting → Stored) → Settings
+unfoldable pub start_settings : (Setting → Option ℕ) → Settings
 start_settings loaded =
     record {
       baud = value_or (loaded Baud) (factory_value Baud);
@@ -60,7 +57,7 @@ pub record Effect : Type 0 where
 
 -- Leaves these settings, and neither saves nor reports.
 abbrev pub leaving : Settings → Effect
-leaving w = record { settings = w; saves = none; report = [] }
+leaving w = record { settings = w; saves = None; report = [] }
 
 -- code, value size, working value
 abbrev pub value_field : Setting → ℕ → List ℕ
@@ -69,15 +66,15 @@ value_field s x = code_of s ∷ value_size s ∷ value_bytes s x
 -- The effect of a function number on a setting, where x is the value sent. `loaded s` is what is loaded of s, a value or nothing. 1 sets
 -- the working value, 2 reads it, 3 saves it, 4 loads the page's value, 5 the factory value. (No command with a function below 1 or
 -- above 5 is accepted.)
-abbrev pub function_effect : ℕ → (Setting → Stored) → Settings → Setting → ℕ → Effect
+abbrev pub function_effect : ℕ → (Setting → Option ℕ) → Settings → Setting → ℕ → Effect
 function_effect zero loaded w s x = leaving w
 function_effect (suc zero) loaded w s x = leaving (with_working w s x)
-function_effect (suc (suc zero)) loaded w s x = record { settings = w; saves = none; report = value_field s (working_value w s) }
-function_effect (suc (suc (suc zero))) loaded w s x = record { settings = w; saves = some s; report = [] }
+function_effect (suc (suc zero)) loaded w s x = record { settings = w; saves = None; report = value_field s (working_value w s) }
+function_effect (suc (suc (suc zero))) loaded w s x = record { settings = w; saves = Some s; report = [] }
 function_effect (suc (suc (suc (suc zero)))) loaded w s x = leaving (loading w s (loaded s))
 function_effect (suc (suc (suc (suc (suc f))))) loaded w s x = leaving (with_working w s (factory_value s))
 
-abbrev pub field_effect : Subject → (Setting → Stored) → Settings → Command → Effect
+abbrev pub field_effect : Subject → (Setting → Option ℕ) → Settings → Command → Effect
 field_effect Ping loaded w c = leaving w
 field_effect (About s) loaded w c = function_effect c.function loaded w s (value_for s c)
 field_effect Unknown loaded w c = leaving w
@@ -88,5 +85,5 @@ effect_on zero e w = e
 effect_on (suc n) e w = leaving w
 
 -- The effect of a field with its own error.
-unfoldable pub effect_of : ℕ → (Setting → Stored) → Settings → Command → Effect
+unfoldable pub effect_of : ℕ → (Setting → Option ℕ) → Settings → Command → Effect
 effect_of denial loaded w c = effect_on (field_error denial loaded c) (field_effect (subject_of c.kind c.code) loaded w c) w

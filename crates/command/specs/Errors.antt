@@ -1,9 +1,8 @@
 -- Document 01, "Handling one message", and requests 02, 03, 05 and 12: the errors, first that applies; of a field, and of a command
 -- as a whole.
-use Rattle.std.specs.Prelude.{Bool, true, false, ◌&&◌, ◌||◌, not, List, ℕ, zero, suc, ◌+◌, eqb, leb, ltb, length}
-use Rattle.std.proofs.Math.Option.{Option, none, some}
+use Rattle.std.specs.Prelude.{Bool, true, false, ◌&&◌, ◌||◌, not, List, ℕ, zero, suc, ◌+◌, eqb, leb, ltb, length, Option}
+use Rattle.std.proofs.Math.Option.{Option as Maybe, none, some}
 use Rattle.page.specs.declared.setting.Setting.{Setting}
-use Rattle.page.specs.declared.setting.Stored.{Stored}
 use Rattle.page.specs.Settings.{storable, not_on_this_board, value_size}
 use Rattle.page.specs.Page.{is_there}
 use Rattle.message.specs.Fields.{Field, fields_of}
@@ -47,7 +46,7 @@ field_wrong subject c = not (size_right subject c) || not (function_right subjec
 
 -- "Not on this board": the value sent with function 1; or the page's under function 4, which has nothing to load then. `loaded s` is what
 -- is loaded of s, a value or nothing.
-abbrev pub not_on_board : Subject → (Setting → Stored) → Command → Bool
+abbrev pub not_on_board : Subject → (Setting → Option ℕ) → Command → Bool
 not_on_board Ping loaded c = false
 not_on_board (About s) loaded c = eqb c.function 1 && not_on_this_board s (value_for s c) || (eqb c.function 4 && not (is_there (loaded s)))
 not_on_board Unknown loaded c = false
@@ -71,7 +70,7 @@ denied denial subject c = nonzero denial && alters subject c
 -- 3: the code is not one of this type's. `denial`, where it is not 0: functions 1, 3, 4 and 5, which need a number (5) or are not
 -- allowed on this port (7). 4: size wrong; function not 1 to 5; value not allowed, that is not storable. 6: not on this board. 0:
 -- otherwise.
-unfoldable pub field_error : ℕ → (Setting → Stored) → Command → ℕ
+unfoldable pub field_error : ℕ → (Setting → Option ℕ) → Command → ℕ
 field_error denial loaded c =
     refuse (is_unknown (subject_of c.kind c.code)) 3
     (refuse (denied denial (subject_of c.kind c.code) c) denial
@@ -86,7 +85,7 @@ abbrev pub most_fields : ℕ
 most_fields = 16
 
 -- Fields do not fill the payload exactly, or are more than 16.
-abbrev pub fields_refused : Option (List Field) → Bool
+abbrev pub fields_refused : Maybe (List Field) → Bool
 fields_refused none = true
 fields_refused (some fs) = ltb most_fields (length fs)
 

@@ -1,9 +1,7 @@
 -- Requests 02 and 03: messages one after the other from a blank page, as a single table, with a single statement about what the rules
 -- give for it.
-use Rattle.std.specs.Prelude.{◌≡◌, Bool, true, false, List, [], ◌∷◌, ◌++◌, ℕ}
+use Rattle.std.specs.Prelude.{◌≡◌, Bool, true, false, List, [], ◌∷◌, ◌++◌, ℕ, Option, Some, None}
 use Rattle.word.specs.Word.{word_bytes}
-use Rattle.page.specs.declared.setting.Stored.{Stored}
-use Rattle.page.specs.declared.setting.Stored.TheVariants.{Absent, Value}
 use Rattle.page.specs.declared.setting.Values.{Values}
 use Rattle.page.specs.Page.{blank_page}
 use Rattle.page.specs.Lookup.{values_in}
@@ -47,11 +45,11 @@ use1 code value rest = code ∷ 0x02 ∷ 0x01 ∷ value ∷ rest
 abbrev pub baud : ℕ → Settings
 baud x = record { baud = x; accelerometer = 0x02; gyroscope = 0x03 }
 
-abbrev pub kept : Stored → ℕ → Values
-kept b n = record { baud = b; accelerometer = Absent; gyroscope = Absent; number = Value n }
+abbrev pub kept : Option ℕ → ℕ → Values
+kept b n = record { baud = b; accelerometer = None; gyroscope = None; number = Some n }
 
 abbrev pub blank : Values
-blank = record { baud = Absent; accelerometer = Absent; gyroscope = Absent; number = Absent }
+blank = record { baud = None; accelerometer = None; gyroscope = None; number = None }
 
 -- Unnumbered: use, save, load and the factory's value, also of a wrong size; report; unknown code; size 0; functions 0 and 6.
 abbrev pub unnumbered : Received
@@ -67,8 +65,8 @@ examples =
     -- L under 5
     ∷ record { rights = guarded_rights; message = good 0x7C (word_bytes 9); rows = row 0x00 4 []; saved = false; settings = baud 115200; values = blank }
     -- the first number is fresh, also 0; then it is stale
-    ∷ record { rights = guarded_rights; message = numbered 0 0x01 (0x02 ∷ 0x00 ∷ []); rows = row 0x02 0 []; saved = true; settings = baud 115200; values = kept Absent 0 }
-    ∷ record { rights = all_rights; message = numbered 0 0x01 (0x02 ∷ 0x00 ∷ []); rows = row 0x02 5 []; saved = false; settings = baud 115200; values = kept Absent 0 }
+    ∷ record { rights = guarded_rights; message = numbered 0 0x01 (0x02 ∷ 0x00 ∷ []); rows = row 0x02 0 []; saved = true; settings = baud 115200; values = kept None 0 }
+    ∷ record { rights = all_rights; message = numbered 0 0x01 (0x02 ∷ 0x00 ∷ []); rows = row 0x02 5 []; saved = false; settings = baud 115200; values = kept None 0 }
     -- several fields, each on what those before it left: 9600 is used and saved, the factory's value taken, the saved one loaded and
     -- reported; the errors between them, of a value and of a Ping in type 02, stop nothing
     ∷ record {
@@ -78,16 +76,16 @@ examples =
       rows = row 0x01 0 (row 0x01 0 (row 0x07 4 (row 0x01 0 (row 0x02 3 (row 0x01 0 (row 0x01 0 (0x01 ∷ 0x04 ∷ word_bytes 9600)))))));
       saved = true;
       settings = baud 9600;
-      values = kept (Value 9600) 6;
+      values = kept (Some 9600) 6;
     }
     -- stale, before the inner type: the echo is the first code, 0 if there is none
-    ∷ record { rights = guarded_rights; message = numbered 6 0x03 (0x55 ∷ []); rows = row 0x55 5 []; saved = false; settings = baud 9600; values = kept (Value 9600) 6 }
-    ∷ record { rights = guarded_rights; message = numbered 5 0x02 []; rows = row 0x00 5 []; saved = false; settings = baud 9600; values = kept (Value 9600) 6 }
+    ∷ record { rights = guarded_rights; message = numbered 6 0x03 (0x55 ∷ []); rows = row 0x55 5 []; saved = false; settings = baud 9600; values = kept (Some 9600) 6 }
+    ∷ record { rights = guarded_rights; message = numbered 5 0x02 []; rows = row 0x00 5 []; saved = false; settings = baud 9600; values = kept (Some 9600) 6 }
     -- the number is spent, and then the command inside is refused as a whole: type, no field, not filled
-    ∷ record { rights = all_rights; message = numbered 7 0x03 (0x02 ∷ 0x00 ∷ []); rows = row 0x02 2 []; saved = true; settings = baud 9600; values = kept (Value 9600) 7 }
-    ∷ record { rights = all_rights; message = numbered 8 0x7C (word_bytes 9 ++ (0x01 ∷ [])); rows = row 0x00 2 []; saved = true; settings = baud 9600; values = kept (Value 9600) 8 }
-    ∷ record { rights = guarded_rights; message = numbered 9 0x01 []; rows = row 0x00 3 []; saved = true; settings = baud 9600; values = kept (Value 9600) 9 }
-    ∷ record { rights = guarded_rights; message = numbered 10 0x02 (0x07 ∷ []); rows = row 0x07 4 []; saved = true; settings = baud 9600; values = kept (Value 9600) 10 }
+    ∷ record { rights = all_rights; message = numbered 7 0x03 (0x02 ∷ 0x00 ∷ []); rows = row 0x02 2 []; saved = true; settings = baud 9600; values = kept (Some 9600) 7 }
+    ∷ record { rights = all_rights; message = numbered 8 0x7C (word_bytes 9 ++ (0x01 ∷ [])); rows = row 0x00 2 []; saved = true; settings = baud 9600; values = kept (Some 9600) 8 }
+    ∷ record { rights = guarded_rights; message = numbered 9 0x01 []; rows = row 0x00 3 []; saved = true; settings = baud 9600; values = kept (Some 9600) 9 }
+    ∷ record { rights = guarded_rights; message = numbered 10 0x02 (0x07 ∷ []); rows = row 0x07 4 []; saved = true; settings = baud 9600; values = kept (Some 9600) 10 }
     -- without a number on port 0, field by field: 5 after 3 and before a field's own 4
     ∷ record {
       rights = guarded_rights;
@@ -95,7 +93,7 @@ examples =
       rows = row 0x08 5 (row 0x08 5 (row 0x08 5 (row 0x08 5 (row 0x07 5 (row 0x08 0 (0x08 ∷ 0x01 ∷ 0x03 ∷ row 0x63 3 (row 0x07 4 (row 0x07 4 (row 0x07 4 [])))))))));
       saved = false;
       settings = baud 9600;
-      values = kept (Value 9600) 10;
+      values = kept (Some 9600) 10;
     }
     -- and with all rights
     ∷ record {
@@ -104,11 +102,11 @@ examples =
       rows = row 0x08 0 (row 0x08 0 (row 0x08 0 (row 0x08 0 (row 0x07 4 (row 0x08 0 (0x08 ∷ 0x01 ∷ 0x03 ∷ row 0x63 3 (row 0x07 4 (row 0x07 4 (row 0x07 4 [])))))))));
       saved = true;
       settings = baud 9600;
-      values = record { baud = Value 9600; accelerometer = Absent; gyroscope = Value 0x01; number = Value 10 };
+      values = record { baud = Some 9600; accelerometer = None; gyroscope = Some 0x01; number = Some 10 };
     }
     -- behind the largest number nothing is fresh
-    ∷ record { rights = guarded_rights; message = numbered 4294967295 0x01 (0x02 ∷ 0x00 ∷ []); rows = row 0x02 0 []; saved = true; settings = baud 9600; values = record { baud = Value 9600; accelerometer = Absent; gyroscope = Value 0x01; number = Value 4294967295 } }
-    ∷ record { rights = guarded_rights; message = numbered 0 0x01 (0x02 ∷ 0x00 ∷ []); rows = row 0x02 5 []; saved = false; settings = baud 9600; values = record { baud = Value 9600; accelerometer = Absent; gyroscope = Value 0x01; number = Value 4294967295 } }
+    ∷ record { rights = guarded_rights; message = numbered 4294967295 0x01 (0x02 ∷ 0x00 ∷ []); rows = row 0x02 0 []; saved = true; settings = baud 9600; values = record { baud = Some 9600; accelerometer = None; gyroscope = Some 0x01; number = Some 4294967295 } }
+    ∷ record { rights = guarded_rights; message = numbered 0 0x01 (0x02 ∷ 0x00 ∷ []); rows = row 0x02 5 []; saved = false; settings = baud 9600; values = record { baud = Some 9600; accelerometer = None; gyroscope = Some 0x01; number = Some 4294967295 } }
     ∷ []
 
 -- ---- what the rules give

@@ -11,6 +11,7 @@ pub mod Numbers
 pub mod Older
 pub mod OnBoard
 pub mod Outcome
+pub mod Payload
 pub mod Place
 pub mod Puts
 pub mod ReadOnly

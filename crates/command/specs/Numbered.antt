@@ -1,8 +1,5 @@
 -- What is proved of numbered commands (requests 03 and 12). Each statement names its proof, a term of that type in a file of proofs/.
-use Rattle.std.specs.Prelude.{◌≡◌, Bool, true, false, ◌&&◌, not, cond, List, ℕ, ◌<◌, eqb, leb, length, get_or}
-use Rattle.std.proofs.Math.Option.{Option, none, some}
-use Rattle.page.specs.declared.setting.Stored.{Stored}
-use Rattle.page.specs.declared.setting.Stored.TheVariants.{Absent, Value}
+use Rattle.std.specs.Prelude.{◌≡◌, Bool, true, false, ◌&&◌, not, cond, List, ℕ, ◌<◌, eqb, leb, length, get_or, Option, Some, None}
 use Rattle.page.specs.Sound.{sound}
 use Rattle.command.specs.declared.rights.Rights.{Rights}
 use Rattle.command.specs.Rights.{all_rights, guarded_rights}
@@ -15,16 +12,16 @@ use Rattle.command.specs.Answer.{number_on, page_access}
 
 -- The number that a message carries: a good one of type 7C with L of 5 or more.
 unfoldable pub carried : Received → Option ℕ
-carried m = cond (m.good && eqb m.kind numbered_kind && leb 5 (length m.payload)) (some (number_of m.payload)) none
+carried m = cond (m.good && eqb m.kind numbered_kind && leb 5 (length m.payload)) (Some (number_of m.payload)) None
 
 -- The number that is looked at: none on a port where it is not allowed.
 abbrev pub allowed_number : Rights → Option ℕ → Option ℕ
-allowed_number rights n = cond rights.readonly none n
+allowed_number rights n = cond rights.readonly None n
 
 -- The number that the page keeps after a message: the one looked at where it is fresh.
-abbrev pub kept_on : Option ℕ → Stored → Stored
-kept_on none last = last
-kept_on (some n) last = cond (is_fresh last n) (Value n) last
+abbrev pub kept_on : Option ℕ → Option ℕ → Option ℕ
+kept_on None last = last
+kept_on (Some n) last = cond (is_fresh last n) (Some n) last
 
 -- ---- handling
 
@@ -48,18 +45,18 @@ pub record HandlesNumber {P : Type 0} (access : Access P) (rights : Rights) (x :
 -- Proof: Numbers `number_handles`.
 abbrev pub NumberHandles : Type 1
 NumberHandles =
-    (P : Type 0) (access : Access P) (rights : Rights) (x : State P) (m : Received) (n : ℕ) → carried m ≡ some n → HandlesNumber access rights x m n
+    (P : Type 0) (access : Access P) (rights : Rights) (x : State P) (m : Received) (n : ℕ) → carried m ≡ Some n → HandlesNumber access rights x m n
 
 -- Does it carry a number that is fresh?
-abbrev pub carries_fresh : Stored → Option ℕ → Bool
-carries_fresh last none = false
-carries_fresh last (some n) = is_fresh last n
+abbrev pub carries_fresh : Option ℕ → Option ℕ → Bool
+carries_fresh last None = false
+carries_fresh last (Some n) = is_fresh last n
 
 -- ---- the board's page
 
 -- A number of four bytes; and on a sound page the number kept after a message. Proof: Numbers `number-kept`.
 pub record KeptNumber (rights : Rights) (x : State (List ℕ)) (m : Received) : Type 0 where
-  pub four_bytes : (n : ℕ) → carried m ≡ some n → n < 4294967296
+  pub four_bytes : (n : ℕ) → carried m ≡ Some n → n < 4294967296
   pub kept : number_on (message_outcome page_access rights x m).next.page ≡ kept_on (allowed_number rights (carried m)) (number_on x.page)
 
 abbrev pub NumberKept : Type 0
@@ -68,7 +65,7 @@ NumberKept = (rights : Rights) (x : State (List ℕ)) (m : Received) → sound x
 -- As long as the page keeps no number, none is needed. Proof: Numbers `without_number`.
 abbrev pub WithoutNumber : Type 0
 WithoutNumber =
-    (x : State (List ℕ)) (m : Received) → number_on x.page ≡ Absent
+    (x : State (List ℕ)) (m : Received) → number_on x.page ≡ None
     → message_outcome page_access guarded_rights x m ≡ message_outcome page_access all_rights x m
 
 -- Nothing changes: neither a working value nor the page; and there is no mark.
@@ -80,5 +77,5 @@ pub record Leaves {P : Type 0} (x : State P) (o : Outcome P) : Type 0 where
 -- `number_guards`.
 abbrev pub NumberGuards : Type 0
 NumberGuards =
-    (x : State (List ℕ)) (m : Received) (last : ℕ) → number_on x.page ≡ Value last → carries_fresh (Value last) (carried m) ≡ false
+    (x : State (List ℕ)) (m : Received) (last : ℕ) → number_on x.page ≡ Some last → carries_fresh (Some last) (carried m) ≡ false
     → Leaves x (message_outcome page_access guarded_rights x m)

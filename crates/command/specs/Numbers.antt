@@ -1,8 +1,6 @@
 -- Requests 03 and 12: the number of a command of type 7C.
-use Rattle.std.specs.Prelude.{Bool, true, not, List, ℕ, ◌%◌, ltb, length, get_or, take, drop}
+use Rattle.std.specs.Prelude.{Bool, true, not, List, ℕ, ◌%◌, ltb, length, get_or, take, drop, Option, Some, None}
 use Rattle.word.specs.Word.{number}
-use Rattle.page.specs.declared.setting.Stored.{Stored}
-use Rattle.page.specs.declared.setting.Stored.TheVariants.{Absent, Value}
 use Rattle.message.specs.Whole.{refuse}
 use Rattle.command.specs.declared.rights.Rights.{Rights}
 
@@ -21,13 +19,13 @@ abbrev pub inner_payload : List ℕ → List ℕ
 inner_payload payload = drop 5 payload
 
 -- "A number is fresh if it is larger than the kept one; with no entry, every number is."
-abbrev pub is_fresh : Stored → ℕ → Bool
-is_fresh Absent n = true
-is_fresh (Value last) n = ltb last n
+abbrev pub is_fresh : Option ℕ → ℕ → Bool
+is_fresh None n = true
+is_fresh (Some last) n = ltb last n
 
 -- 7: "any 7C with right sums gets it at once, its number unspent", where Ping and function 2 alone are allowed. 4: L under 5. 5: the
 -- number is stale. 0: it is spent, and the command inside has its own errors.
-unfoldable pub number_error : Rights → Stored → List ℕ → ℕ
+unfoldable pub number_error : Rights → Option ℕ → List ℕ → ℕ
 number_error rights last payload =
     refuse rights.readonly 7
     (refuse (ltb (length payload) 5) 4

@@ -1,8 +1,6 @@
 -- Request 05: messages one after the other from the page of an older board, as a single table, with a single statement about what the
 -- rules give for it.
-use Rattle.std.specs.Prelude.{◌≡◌, true, false, List, [], ◌∷◌, ℕ}
-use Rattle.page.specs.declared.setting.Stored.{Stored}
-use Rattle.page.specs.declared.setting.Stored.TheVariants.{Absent, Value}
+use Rattle.std.specs.Prelude.{◌≡◌, true, false, List, [], ◌∷◌, ℕ, Option, Some, None}
 use Rattle.page.specs.declared.setting.Values.{Values}
 use Rattle.page.specs.Page.{filled}
 use Rattle.page.specs.Sound.{sound}
@@ -18,13 +16,13 @@ older_page = filled (0x03 ∷ 0x01 ∷ 0x0A ∷ 0x04 ∷ 0x07 ∷ 0x0E ∷ 0x01 
 abbrev gyroscope : ℕ → Settings
 gyroscope x = record { baud = 9600; accelerometer = 0x04; gyroscope = x }
 
-abbrev holding : ℕ → Stored → Values
-holding x number = record { baud = Value 9600; accelerometer = Value 0x04; gyroscope = Value x; number = number }
+abbrev holding : ℕ → Option ℕ → Values
+holding x number = record { baud = Some 9600; accelerometer = Some 0x04; gyroscope = Some x; number = number }
 
 abbrev pub older_examples : List Line
 older_examples =
     -- starting has used the factory value, and the page's values of the other settings
-    record { rights = guarded_rights; message = good 0x02 (field 0x08 0x02 []); rows = row 0x08 0 (0x08 ∷ 0x01 ∷ 0x03 ∷ []); saved = false; settings = gyroscope 0x03; values = holding 0x06 Absent }
+    record { rights = guarded_rights; message = good 0x02 (field 0x08 0x02 []); rows = row 0x08 0 (0x08 ∷ 0x01 ∷ 0x03 ∷ []); saved = false; settings = gyroscope 0x03; values = holding 0x06 None }
     -- function 1: 06 and 07 are not on this board; 00 and 08 are on none; 05 is used
     ∷ record {
       rights = guarded_rights;
@@ -32,7 +30,7 @@ older_examples =
       rows = row 0x08 6 (row 0x08 6 (row 0x08 4 (row 0x08 4 (row 0x08 0 []))));
       saved = false;
       settings = gyroscope 0x05;
-      values = holding 0x06 Absent;
+      values = holding 0x06 None;
     }
     -- the size is tested before: 06 with a byte more, and with no byte; the functions 0 and 6 with it; an accelerometer range 06 is on no board
     ∷ record {
@@ -42,7 +40,7 @@ older_examples =
       rows = row 0x08 4 (row 0x08 4 (row 0x08 4 (row 0x08 4 (row 0x07 4 []))));
       saved = false;
       settings = gyroscope 0x05;
-      values = holding 0x06 Absent;
+      values = holding 0x06 None;
     }
     -- function 4: the working value is left, and a value byte that comes with it is not looked at; a wrong size is 4; the other settings are
     -- loaded
@@ -52,7 +50,7 @@ older_examples =
       rows = row 0x08 6 (row 0x08 6 (row 0x08 4 (row 0x07 0 (row 0x01 0 []))));
       saved = false;
       settings = gyroscope 0x05;
-      values = holding 0x06 Absent;
+      values = holding 0x06 None;
     }
     -- function 5 takes the factory value, whatever the page holds
     ∷ record {
@@ -61,7 +59,7 @@ older_examples =
       rows = row 0x08 0 (row 0x08 0 (0x08 ∷ 0x01 ∷ 0x03 ∷ row 0x08 0 []));
       saved = false;
       settings = gyroscope 0x05;
-      values = holding 0x06 Absent;
+      values = holding 0x06 None;
     }
     -- behind a number it is the same, and the number is spent
     ∷ record {
@@ -70,11 +68,11 @@ older_examples =
       rows = row 0x08 6 (row 0x08 6 []);
       saved = true;
       settings = gyroscope 0x05;
-      values = holding 0x06 (Value 1);
+      values = holding 0x06 (Some 1);
     }
     -- without one, 5 comes first on port 0
-    ∷ record { rights = guarded_rights; message = good 0x02 (field 0x08 0x04 (use1 0x08 0x06 [])); rows = row 0x08 5 (row 0x08 5 []); saved = false; settings = gyroscope 0x05; values = holding 0x06 (Value 1) }
-    ∷ record { rights = all_rights; message = good 0x02 (field 0x08 0x04 (use1 0x08 0x06 [])); rows = row 0x08 6 (row 0x08 6 []); saved = false; settings = gyroscope 0x05; values = holding 0x06 (Value 1) }
+    ∷ record { rights = guarded_rights; message = good 0x02 (field 0x08 0x04 (use1 0x08 0x06 [])); rows = row 0x08 5 (row 0x08 5 []); saved = false; settings = gyroscope 0x05; values = holding 0x06 (Some 1) }
+    ∷ record { rights = all_rights; message = good 0x02 (field 0x08 0x04 (use1 0x08 0x06 [])); rows = row 0x08 6 (row 0x08 6 []); saved = false; settings = gyroscope 0x05; values = holding 0x06 (Some 1) }
     -- function 3 saves the working value over it, and then function 4 loads that
     ∷ record {
       rights = all_rights;
@@ -82,7 +80,7 @@ older_examples =
       rows = row 0x08 0 (row 0x08 0 (row 0x08 0 (row 0x08 0 (0x08 ∷ 0x01 ∷ 0x05 ∷ []))));
       saved = true;
       settings = gyroscope 0x05;
-      values = holding 0x05 (Value 1);
+      values = holding 0x05 (Some 1);
     }
     ∷ []
 

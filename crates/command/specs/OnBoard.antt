@@ -1,9 +1,7 @@
 -- What is proved of values that are on this board, and of those that are not (request 05). Each statement names its proof, a term of that
 -- type in a file of proofs/.
-use Rattle.std.specs.Prelude.{◌≡◌, true, false, List, ℕ}
+use Rattle.std.specs.Prelude.{◌≡◌, true, false, List, ℕ, Option, Some, None}
 use Rattle.page.specs.declared.setting.Setting.{Setting}
-use Rattle.page.specs.declared.setting.Stored.{Stored}
-use Rattle.page.specs.declared.setting.Stored.TheVariants.{Absent, Value}
 use Rattle.page.specs.Settings.{usable, storable, not_on_this_board, factory_value}
 use Rattle.page.specs.Page.{stored_in}
 use Rattle.page.specs.Lookup.{values_in}
@@ -30,7 +28,7 @@ pub record UsableEach (w : Settings) : Type 0 where
 
 -- From any bytes it is usable or nothing. Proof: Pages `loads_usable`.
 abbrev pub LoadsUsable : Type 0
-LoadsUsable = (page : List ℕ) (s : Setting) (x : ℕ) → loaded_from page s ≡ Value x → usable s x ≡ true
+LoadsUsable = (page : List ℕ) (s : Setting) (x : ℕ) → loaded_from page s ≡ Some x → usable s x ≡ true
 
 -- From a sound page it is the value that the page holds, or the factory value where it has none; and nothing where the page holds a value
 -- that is not usable. Proof: Pages `loads_stored`.
@@ -41,13 +39,13 @@ LoadsStored = (page : List ℕ) (s : Setting) → sound page ≡ true → loaded
 
 -- It sets usable values, if what is loaded is usable or nothing. Proof: Keeps `starts_usable`.
 abbrev pub StartsUsable : Type 0
-StartsUsable = (loaded : Setting → Stored) → ((s : Setting) (x : ℕ) → loaded s ≡ Value x → usable s x ≡ true) → settings_usable (start_settings loaded) ≡ true
+StartsUsable = (loaded : Setting → Option ℕ) → ((s : Setting) (x : ℕ) → loaded s ≡ Some x → usable s x ≡ true) → settings_usable (start_settings loaded) ≡ true
 
 -- On a sound page it takes the value held, where that is usable; else the factory value. Proof: Pages `start_takes`.
 pub record StartTakes (page : List ℕ) (s : Setting) : Type 0 where
-  pub held : (v : ℕ) → stored_in (values_in page) s ≡ Value v → usable s v ≡ true → working_value (settings_from page) s ≡ v
-  pub unheld : stored_in (values_in page) s ≡ Absent → working_value (settings_from page) s ≡ factory_value s
-  pub not_on_board_lem : (v : ℕ) → stored_in (values_in page) s ≡ Value v → usable s v ≡ false → working_value (settings_from page) s ≡ factory_value s
+  pub held : (v : ℕ) → stored_in (values_in page) s ≡ Some v → usable s v ≡ true → working_value (settings_from page) s ≡ v
+  pub unheld : stored_in (values_in page) s ≡ None → working_value (settings_from page) s ≡ factory_value s
+  pub not_on_board_lem : (v : ℕ) → stored_in (values_in page) s ≡ Some v → usable s v ≡ false → working_value (settings_from page) s ≡ factory_value s
 
 abbrev pub StartsTake : Type 0
 StartsTake = (page : List ℕ) (s : Setting) → sound page ≡ true → StartTakes page s
@@ -80,9 +78,9 @@ FunctionOne = (rights : Rights) (x : State (List ℕ)) (c : Command) (s : Settin
 -- Function 4 on a sound page: the value held is used, or the factory value where there is none; where the page holds a value that is not
 -- usable it is 6, and the working value is left. Proof: Pages `loads_or_refuses`.
 pub record LoadsOrRefuses (rights : Rights) (x : State (List ℕ)) (c : Command) (s : Setting) : Type 0 where
-  pub held : (v : ℕ) → stored_in (values_in x.page) s ≡ Value v → usable s v ≡ true → field_outcome page_access rights x c ≡ working x c s v
-  pub unheld : stored_in (values_in x.page) s ≡ Absent → field_outcome page_access rights x c ≡ working x c s (factory_value s)
-  pub not_on_board_lem : (v : ℕ) → stored_in (values_in x.page) s ≡ Value v → usable s v ≡ false → field_outcome page_access rights x c ≡ refusing x c 6
+  pub held : (v : ℕ) → stored_in (values_in x.page) s ≡ Some v → usable s v ≡ true → field_outcome page_access rights x c ≡ working x c s v
+  pub unheld : stored_in (values_in x.page) s ≡ None → field_outcome page_access rights x c ≡ working x c s (factory_value s)
+  pub not_on_board_lem : (v : ℕ) → stored_in (values_in x.page) s ≡ Some v → usable s v ≡ false → field_outcome page_access rights x c ≡ refusing x c 6
 
 abbrev pub FunctionFour : Type 0
 FunctionFour =

@@ -1,9 +1,7 @@
 -- Document 01, "Handling one message", and requests 02, 03, 05 and 12: what a field and a row of fields leave; and the reply. Over any keeping of
 -- the page's values: the board keeps a page of 64 bytes, the plain reckoning the values under codes.
-use Rattle.std.specs.Prelude.{Bool, true, false, ◌&&◌, ◌||◌, List, [], ◌∷◌, ◌++◌, ℕ, get_or}
-use Rattle.std.proofs.Math.Option.{Option, none, some}
+use Rattle.std.specs.Prelude.{Bool, true, false, ◌&&◌, ◌||◌, List, [], ◌∷◌, ◌++◌, ℕ, get_or, Option, Some, None}
 use Rattle.page.specs.declared.setting.Setting.{Setting}
-use Rattle.page.specs.declared.setting.Stored.{Stored}
 use Rattle.page.specs.Page.{is_there}
 use Rattle.message.specs.Message.{message_of, type_of, payload_of}
 use Rattle.message.specs.Whole.{refuse}
@@ -29,9 +27,9 @@ received_of good m = record { good = good; kind = type_of m; payload = payload_o
 -- How the page's values are kept: what is loaded of a setting, a value or nothing; the page with a value saved; the last number
 -- accepted; and the page with a number put in.
 pub record Access (P : Type 0) : Type 0 where
-  pub loaded : P → Setting → Stored
+  pub loaded : P → Setting → Option ℕ
   pub save : P → Setting → ℕ → P
-  pub last_number : P → Stored
+  pub last_number : P → Option ℕ
   pub put_number : P → ℕ → P
 
 -- The working values, and the page.
@@ -77,14 +75,14 @@ module _ {P : Type 0} where
 
 -- Was a save accepted?
 abbrev pub is_save : Option Setting → Bool
-is_save none = false
-is_save (some s) = true
+is_save None = false
+is_save (Some s) = true
 
 module _ {P : Type 0} (save : P → Setting → ℕ → P) where
   -- A save puts the working value in, and nothing else changes the page.
   abbrev pub page_after : Option Setting → Settings → P → P
-  page_after none w page = page
-  page_after (some s) w page = save page s (working_value w s)
+  page_after None w page = page
+  page_after (Some s) w page = save page s (working_value w s)
 
   -- What an effect leaves, and the field that it adds to the reply.
   abbrev pub effect_outcome : Effect → State P → Outcome P

@@ -1,6 +1,5 @@
 -- Requests 02, 03 and 12: what a message puts on the board's page. "The page now changes on accepted saves and on fresh numbers."
-use Rattle.std.specs.Prelude.{Bool, true, false, not, cond, List, [], ◌∷◌, ◌++◌, ℕ, zero, suc, eqb}
-use Rattle.std.proofs.Math.Option.{Option, none, some}
+use Rattle.std.specs.Prelude.{Bool, true, false, not, cond, List, [], ◌∷◌, ◌++◌, ℕ, zero, suc, eqb, Option, Some, None}
 use Rattle.page.specs.declared.setting.Setting.{Setting}
 use Rattle.page.specs.Settings.{Key, value_of, last_number}
 use Rattle.page.specs.Sound.{put_page}
@@ -32,8 +31,8 @@ is_empty (p ∷ ps) = false
 
 -- An accepted save puts the working value in, and no other field puts anything in.
 abbrev pub save_puts : Option Setting → Settings → List Put
-save_puts none w = []
-save_puts (some s) w = record { key = value_of s; value = working_value w s } ∷ []
+save_puts None w = []
+save_puts (Some s) w = record { key = value_of s; value = working_value w s } ∷ []
 
 abbrev pub field_puts : Rights → State (List ℕ) → Command → List Put
 field_puts rights x c = save_puts (effect_of (denial_of page_access rights x.page) (loaded_from x.page) x.settings c).saves x.settings

@@ -1,8 +1,7 @@
 -- Request 12: messages one after the other from a blank page, those of port 0 and those of port 1 in the profile where it is read-only, as
 -- a single table, with a single statement about what the rules give for it.
-use Rattle.std.specs.Prelude.{◌≡◌, true, false, List, [], ◌∷◌}
+use Rattle.std.specs.Prelude.{◌≡◌, true, false, List, [], ◌∷◌, None}
 use Rattle.word.specs.Word.{word_bytes}
-use Rattle.page.specs.declared.setting.Stored.TheVariants.{Absent}
 use Rattle.page.specs.Page.{blank_page}
 use Rattle.command.specs.Rights.{guarded_rights, read_only_rights}
 use Rattle.command.specs.Answer.{settings_from}
@@ -42,13 +41,13 @@ read_only_examples =
     ∷ record { rights = read_only_rights; message = numbered 9 0x03 (0x55 ∷ []); rows = row 0x55 7 []; saved = false; settings = baud 115200; values = blank }
     ∷ record { rights = read_only_rights; message = damaged 0x7C (0x31 ∷ 0x00 ∷ 0x00 ∷ 0x01 ∷ 0x02 ∷ field 0x01 0x03 []); rows = row 0x31 1 []; saved = false; settings = baud 115200; values = blank }
     -- the number was not spent: port 0 takes it; then it is 7 as well, and so is a larger one, which port 0 takes again
-    ∷ record { rights = guarded_rights; message = numbered 9 0x01 (0x02 ∷ 0x00 ∷ []); rows = row 0x02 0 []; saved = true; settings = baud 115200; values = kept Absent 9 }
-    ∷ record { rights = read_only_rights; message = numbered 9 0x01 (0x02 ∷ 0x00 ∷ []); rows = row 0x02 7 []; saved = false; settings = baud 115200; values = kept Absent 9 }
-    ∷ record { rights = read_only_rights; message = numbered 10 0x02 (field 0x01 0x03 []); rows = row 0x01 7 []; saved = false; settings = baud 115200; values = kept Absent 9 }
-    ∷ record { rights = guarded_rights; message = numbered 10 0x01 (0x02 ∷ 0x00 ∷ []); rows = row 0x02 0 []; saved = true; settings = baud 115200; values = kept Absent 10 }
+    ∷ record { rights = guarded_rights; message = numbered 9 0x01 (0x02 ∷ 0x00 ∷ []); rows = row 0x02 0 []; saved = true; settings = baud 115200; values = kept None 9 }
+    ∷ record { rights = read_only_rights; message = numbered 9 0x01 (0x02 ∷ 0x00 ∷ []); rows = row 0x02 7 []; saved = false; settings = baud 115200; values = kept None 9 }
+    ∷ record { rights = read_only_rights; message = numbered 10 0x02 (field 0x01 0x03 []); rows = row 0x01 7 []; saved = false; settings = baud 115200; values = kept None 9 }
+    ∷ record { rights = guarded_rights; message = numbered 10 0x01 (0x02 ∷ 0x00 ∷ []); rows = row 0x02 0 []; saved = true; settings = baud 115200; values = kept None 10 }
     -- without a number port 0 has 5, and not 7
-    ∷ record { rights = guarded_rights; message = good 0x02 (field 0x01 0x03 []); rows = row 0x01 5 []; saved = false; settings = baud 115200; values = kept Absent 10 }
-    ∷ record { rights = read_only_rights; message = good 0x02 (field 0x01 0x03 []); rows = row 0x01 7 []; saved = false; settings = baud 115200; values = kept Absent 10 }
+    ∷ record { rights = guarded_rights; message = good 0x02 (field 0x01 0x03 []); rows = row 0x01 5 []; saved = false; settings = baud 115200; values = kept None 10 }
+    ∷ record { rights = read_only_rights; message = good 0x02 (field 0x01 0x03 []); rows = row 0x01 7 []; saved = false; settings = baud 115200; values = kept None 10 }
     ∷ []
 
 -- From a start on a blank page the rules give for each line's message what the line says. Proof: Exampled `read_only_lines`.

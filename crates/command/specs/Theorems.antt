@@ -1,10 +1,7 @@
 -- What is proved of handling, beyond the contracts of the code. Each statement names its proof, a term of that type in a file of
 -- proofs/.
-use Rattle.std.specs.Prelude.{◌≡◌, Bool, true, false, not, List, ◌++◌, ℕ, ◌+◌, ◌≤◌, ◌<◌, length, drop}
-use Rattle.std.proofs.Math.Option.{some}
+use Rattle.std.specs.Prelude.{◌≡◌, Bool, true, false, not, List, ◌++◌, ℕ, ◌+◌, ◌≤◌, ◌<◌, length, drop, Option, Some}
 use Rattle.page.specs.declared.setting.Setting.{Setting}
-use Rattle.page.specs.declared.setting.Stored.{Stored}
-use Rattle.page.specs.declared.setting.Stored.TheVariants.{Value}
 use Rattle.page.specs.Settings.{usable, Key, key_storable}
 use Rattle.page.specs.Sound.{sound, put_page, saved_page}
 use Rattle.message.specs.Message.{length_of}
@@ -25,22 +22,22 @@ use Rattle.command.specs.Answer.{loaded_from, put_on, page_access, reply_room, a
 -- It keeps the working values usable, whatever the command, if what is loaded is usable or nothing. Proof: Keeps `keeps_usable`.
 abbrev pub KeepsUsable : Type 0
 KeepsUsable =
-    (denial : ℕ) (loaded : Setting → Stored) (w : Settings) (c : Command) → ((s : Setting) (x : ℕ) → loaded s ≡ Value x → usable s x ≡ true)
+    (denial : ℕ) (loaded : Setting → Option ℕ) (w : Settings) (c : Command) → ((s : Setting) (x : ℕ) → loaded s ≡ Some x → usable s x ≡ true)
     → settings_usable w ≡ true → settings_usable (effect_of denial loaded w c).settings ≡ true
 
 -- A save of a setting is accepted where there is no error, the command is about that setting and its function is 3, and
 -- nowhere else.
-pub record SaveOf (denial : ℕ) (loaded : Setting → Stored) (c : Command) (s : Setting) : Type 0 where
+pub record SaveOf (denial : ℕ) (loaded : Setting → Option ℕ) (c : Command) (s : Setting) : Type 0 where
   pub no_error : field_error denial loaded c ≡ 0
   pub about : subject_of c.kind c.code ≡ About s
   pub function : c.function ≡ 3
 
 -- Proofs: Keeps `saves_only`, `saves_then`.
 abbrev pub SavesOnly : Type 0
-SavesOnly = (denial : ℕ) (loaded : Setting → Stored) (w : Settings) (c : Command) (s : Setting) → (effect_of denial loaded w c).saves ≡ some s → SaveOf denial loaded c s
+SavesOnly = (denial : ℕ) (loaded : Setting → Option ℕ) (w : Settings) (c : Command) (s : Setting) → (effect_of denial loaded w c).saves ≡ Some s → SaveOf denial loaded c s
 
 abbrev pub SavesThen : Type 0
-SavesThen = (denial : ℕ) (loaded : Setting → Stored) (w : Settings) (c : Command) (s : Setting) → SaveOf denial loaded c s → (effect_of denial loaded w c).saves ≡ some s
+SavesThen = (denial : ℕ) (loaded : Setting → Option ℕ) (w : Settings) (c : Command) (s : Setting) → SaveOf denial loaded c s → (effect_of denial loaded w c).saves ≡ Some s
 
 -- ---- the board's page
 

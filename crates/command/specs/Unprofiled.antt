@@ -1,8 +1,7 @@
 -- Handling before request 12, when what a message might do followed from the number of its port, and what the request left of it. No other
 -- file of this crate uses these definitions.
-use Rattle.std.specs.Prelude.{◌≡◌, Bool, false, ◌&&◌, not, cond, List, [], ◌∷◌, ℕ, zero, suc, eqb, ltb, length, get_or}
+use Rattle.std.specs.Prelude.{◌≡◌, Bool, false, ◌&&◌, not, cond, List, [], ◌∷◌, ℕ, zero, suc, eqb, ltb, length, get_or, Option}
 use Rattle.page.specs.declared.setting.Setting.{Setting}
-use Rattle.page.specs.declared.setting.Stored.{Stored}
 use Rattle.page.specs.Page.{is_there}
 use Rattle.message.specs.Fields.{fields_of}
 use Rattle.message.specs.Whole.{refuse}
@@ -16,7 +15,7 @@ use Rattle.command.specs.Handle.{fields_in, refused_outcome, marked, spent, mess
 
 -- 3: the code is not one of this type's. 5: functions 1, 3, 4 and 5, where they need a number. 4: size, function or value wrong. 6: not
 -- on this board.
-unfoldable pub error_unprofiled : Bool → (Setting → Stored) → Command → ℕ
+unfoldable pub error_unprofiled : Bool → (Setting → Option ℕ) → Command → ℕ
 error_unprofiled needs_number loaded c =
     refuse (is_unknown (subject_of c.kind c.code)) 3
     (refuse (needs_number && alters (subject_of c.kind c.code) c) 5
@@ -25,7 +24,7 @@ error_unprofiled needs_number loaded c =
     0)))
 
 -- 4: L under 5. 5: the number is stale.
-unfoldable pub number_unprofiled : Stored → List ℕ → ℕ
+unfoldable pub number_unprofiled : Option ℕ → List ℕ → ℕ
 number_unprofiled last payload = refuse (ltb (length payload) 5) 4 (refuse (not (is_fresh last (number_of payload))) 5 0)
 
 module _ {P : Type 0} (access : Access P) where

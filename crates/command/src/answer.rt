@@ -1,24 +1,27 @@
 // The answer to a message: the reply, and what becomes of the settings and the page.
-ghost use Rattle.std.specs.Prelude.{◌≡◌, true, false, ◌++◌, ◌+◌, ◌-◌, ◌≤◌, ◌<◌, length, take, drop};
+ghost use Rattle.std.specs.Prelude.{◌≡◌, true, false, ◌+◌, ◌-◌, ◌≤◌, ◌<◌, length, take, drop};
 ghost use Rattle.page.specs.Page.{is_there};
 ghost use Rattle.message.specs.Fields.{fields_of};
 ghost use Rattle.message.specs.Write.{sealing};
+ghost use Rattle.message.specs.Unread.{bytes_of};
 ghost use Rattle.command.specs.Answer.{loaded_from, saved_on, page_access, answering};
 ghost use Rattle.command.specs.Command.{value_for, commands_of};
 ghost use Rattle.command.specs.Effects.{Fits, function_effect};
 ghost use Rattle.command.specs.Errors.{fields_refused};
 ghost use Rattle.command.specs.Outcome.{received_of, error_in, denial_of, effect_outcome, field_with};
 ghost use Rattle.command.specs.Handle.{fields_in, command_outcome};
+ghost use Rattle.command.specs.Payload.{bytes_in, Stands};
 ghost use Rattle.command.specs.Place.{state_of, placed, fields_with, rights_behind, opened_outcome};
 
 use crate::command::{Command, Subject, command_at, count_of, subject_of};
 use crate::errors::{denial_of, field_error, value_for};
-use crate::fields::{command_error, echo_of, payload_end};
+use crate::fields::{command_error, payload_end};
 use crate::number::{Opened, open_message};
+use crate::payload::Payload;
 use crate::place::{Progress, put_row, put_value};
 use crate::rights::Rights;
 use crate::settings::{Settings, looked_up};
-use message::byte_over;
+use message::Unread;
 use page::Setting;
 
 // What a message leaves, beside the reply and the page.
@@ -98,25 +101,23 @@ fn answer_field(denial: u8, c: Command, p: Progress, room: &mut [u8], page: &mut
     }
 }
 
-// Answers the fields that fill the bytes `from..to` of `held` and then `chunk`, of a command of type `kind`.
+// Answers the fields that fill the payload of a command of type `kind`.
 fn answer_fields(
     denial: u8,
-    held: &[u8],
-    chunk: &[u8],
+    payload: Payload,
     kind: u8,
-    from: usize,
-    to: usize,
     start: Progress,
     room: &mut [u8],
     page: &mut [u8],
 ) -> Progress
-    requires { (from ≤ to) × (to < 65536) × (to ≤ length held.now + length chunk.now) × (fields_refused (fields_of (drop from (take to (held.now ++ chunk.now)))) ≡ false) × (start.end + 160 ≤ length room.old) }
-    ensures { record { done = result; room = room.new; page = page.new } ≡ placed start (fields_with denial (state_of start page.old) (commands_of kind (fields_in (fields_of (drop from (take to (held.now ++ chunk.now))))))) room.old }
+    requires { Stands payload × (payload.to < 65536) × (payload.to ≤ length payload.unread.held.now + length payload.unread.chunk.now) × (fields_refused (fields_of (bytes_in payload)) ≡ false) × (start.end + 160 ≤ length room.old) }
+    ensures { record { done = result; room = room.new; page = page.new } ≡ placed start (fields_with denial (state_of start page.old) (commands_of kind (fields_in (fields_of (bytes_in payload.entry))))) room.old }
 {
-    let mut at = from;
+    let to = payload.to;
+    let mut at = payload.from;
     let mut p = start;
     while at < to {
-        let c = command_at(held, chunk, kind, at);
+        let c = command_at(payload.unread, kind, at);
         p = answer_field(denial, c, p, room, page);
         at += 2 + count_of(c.size);
     }
@@ -125,22 +126,23 @@ fn answer_fields(
 
 // Seals the reply whose `n` bytes of rows stand in the room. Most replies have one row, without a value or with one of one or four
 // bytes: with the length a constant the sums go faster.
+// Kept: four cases (b). With one call a feed takes 16 bytes more of stack and a message 8 to 14 instructions more (bin/instructions).
 fn seal(kind: u8, n: usize, room: &mut [u8])
     ensures { room.new ≡ (sealing kind n room.old).room }
 {
     if n == 4 {
-        message::seal_message(kind, 4, room);
+        let _ = message::seal_message(kind, 4, room);
         return;
     }
     if n == 7 {
-        message::seal_message(kind, 7, room);
+        let _ = message::seal_message(kind, 7, room);
         return;
     }
     if n == 10 {
-        message::seal_message(kind, 10, room);
+        let _ = message::seal_message(kind, 10, room);
         return;
     }
-    message::seal_message(kind, n, room);
+    let _ = message::seal_message(kind, n, room);
 }
 
 // The first error in the reply at the room's front. It is read where the room is at hand: kept from the first row on, it would take
@@ -177,70 +179,67 @@ fn denial_behind(numbered: bool, rights: Rights, page: &[u8]) -> u8
     denial_of(rights, page)
 }
 
-// Answers the command of type `kind` whose fields are to fill the bytes `from..to` of `held` and then `chunk`. The page's number is
+// Answers the command of type `kind` whose fields are to fill the payload. The page's number is
 // looked at once for all of them, which do not change it.
 fn answer_command(
     rights: Rights,
     numbered: bool,
-    held: &[u8],
-    chunk: &[u8],
+    payload: Payload,
     kind: u8,
-    from: usize,
-    to: usize,
     start: Progress,
     room: &mut [u8],
     page: &mut [u8],
 ) -> Progress
-    requires { (from ≤ to) × (to < 65536) × (to ≤ from + (length held.now + length chunk.now - from)) × (start.end + 160 ≤ length room.old) }
-    ensures { record { done = result; room = room.new; page = page.new } ≡ placed start (command_outcome page_access (rights_behind numbered rights) (state_of start page.old) kind (drop from (take to (held.now ++ chunk.now)))) room.old }
+    requires { Stands payload × (payload.to < 65536) × (start.end + 160 ≤ length room.old) }
+    ensures { record { done = result; room = room.new; page = page.new } ≡ placed start (command_outcome page_access (rights_behind numbered rights) (state_of start page.old) kind (bytes_in payload.entry)) room.old }
 {
-    let whole_error = command_error(held, chunk, kind, from, to);
+    let whole_error = command_error(payload, kind);
     if whole_error != 0 {
-        return put_row(echo_of(held, chunk, from, to), whole_error, start, room);
+        return put_row(payload.byte(0), whole_error, start, room);
     }
     let denial = denial_behind(numbered, rights, page);
-    answer_fields(denial, held, chunk, kind, from, to, start, room, page)
+    answer_fields(denial, payload, kind, start, room, page)
 }
 
 // Answers what a message was opened to, whose payload ends at `to`: one row with its error, or the command in it. That a numbered one
 // is answered here too, and not by a call of its own, lets the compiler make one function of all this.
 fn answer_opened(
     rights: Rights,
-    held: &[u8],
-    chunk: &[u8],
+    unread: Unread,
     o: Opened,
     to: usize,
     start: Progress,
     room: &mut [u8],
     page: &mut [u8],
 ) -> Progress
-    requires { (o.error ≡ 0 → (o.from ≤ to) × (to ≤ o.from + (length held.now + length chunk.now - o.from))) × (to < 65536) × (start.end + 160 ≤ length room.old) }
-    ensures { record { done = result; room = room.new; page = page.new } ≡ placed start (opened_outcome rights o (state_of start page.old) (drop o.from (take to (held.now ++ chunk.now)))) room.old }
+    requires { (o.error ≡ 0 → (o.from ≤ to) × (to ≤ o.from + (length unread.held.now + length unread.chunk.now - o.from))) × (to < 65536) × (start.end + 160 ≤ length room.old) }
+    ensures { record { done = result; room = room.new; page = page.new } ≡ placed start (opened_outcome rights o (state_of start page.old) (drop o.from (take to (bytes_of unread.entry)))) room.old }
 {
+    let payload = Payload {
+        unread,
+        from: o.from,
+        to,
+    };
     let refusal = o.error;
-    let from = o.from;
     if refusal != 0 {
-        return put_row(echo_of(held, chunk, from, to), refusal, start, room);
+        return put_row(payload.byte(0), refusal, start, room);
     }
-    answer_command(
-        rights, o.numbered, held, chunk, o.kind, from, to, start, room, page,
-    )
+    answer_command(rights, o.numbered, payload, o.kind, start, room, page)
 }
 
-// Answers the message at the front of `held` and then `chunk`, which has these rights on its port. The settings, the room and the page
+// Answers the message at the front of `unread`, which has these rights on its port. The settings, the room and the page
 // are taken as they are: a feed has tested them. In a room under 166 bytes nothing is done. A message that is damaged, or of a type
 // other than 01, 02 and 7C, is answered by its type and first payload byte alone, so that noise and data messages are answered
 // without a look at the rest.
 pub fn answer_over(
     rights: Rights,
-    held: &[u8],
-    chunk: &[u8],
+    unread: Unread,
     good: bool,
     w: Settings,
     room: &mut [u8],
     page: &mut [u8],
 ) -> Answer
-    ensures { record { answer = result; room = room.new; page = page.new } ≡ answering rights (received_of good (held.now ++ chunk.now)) w room.old page.old }
+    ensures { record { answer = result; room = room.new; page = page.new } ≡ answering rights (received_of good (bytes_of unread.entry)) w room.old page.old }
 {
     if room.len() < 166 {
         return Answer {
@@ -249,14 +248,19 @@ pub fn answer_over(
             settings: w,
         };
     }
-    let kind = byte_over(held, chunk, 2);
-    let to = payload_end(held, chunk);
-    let o = open_message(rights, held, chunk, good, kind, to, page);
+    let kind = unread.byte(2);
+    let to = payload_end(unread);
+    let payload = Payload {
+        unread,
+        from: 4,
+        to,
+    };
+    let o = open_message(rights, payload, good, kind, page);
     let start = Progress {
         end: 4,
         saved: o.numbered,
         settings: w,
     };
-    let p = answer_opened(rights, held, chunk, o, to, start, room, page);
+    let p = answer_opened(rights, unread, o, to, start, room, page);
     sealed(kind, p, room)
 }

@@ -1,10 +1,11 @@
 // What handling sees of one field of a command.
-ghost use Rattle.std.specs.Prelude.{◌≡◌, ◌++◌, ◌<◌, ◌+◌, get_or, take, drop};
+ghost use Rattle.std.specs.Prelude.{◌≡◌, ◌<◌, ◌+◌, get_or, take, drop};
+ghost use Rattle.message.specs.Unread.{bytes_of};
 ghost use Rattle.command.specs.Command.{command_of, subject_of};
 ghost use Rattle.command.specs.Place.{field_at};
 
-use message::byte_over;
-use page::{Coded, Setting};
+use message::Unread;
+use page::Setting;
 
 // A field, with the type of its message. What its data do not have is 0.
 #[derive(Clone, Copy)]
@@ -34,30 +35,26 @@ pub(crate) fn count_of(n: u8) -> usize
     n as usize
 }
 
-// Byte `i` of the `n` bytes from `at` on in `held` and then `chunk`: 0 where there is none.
-fn data_byte(held: &[u8], chunk: &[u8], at: usize, n: usize, i: usize) -> u8
+// Byte `i` of the `n` bytes from `at` on in `unread`: 0 where there is none.
+fn data_byte(unread: Unread, at: usize, n: usize, i: usize) -> u8
     requires { at + i < 4294967296 }
-    ensures { result ≡ get_or (take n (drop at (held.now ++ chunk.now))) i 0 }
+    ensures { result ≡ get_or (take n (drop at (bytes_of unread.entry))) i 0 }
 {
-    if i < n {
-        byte_over(held, chunk, at + i)
-    } else {
-        0
-    }
+    if i < n { unread.byte(at + i) } else { 0 }
 }
 
-// The field whose code stands at `at` in `held` and then `chunk`. Its bytes are read in the order that they stand in: with the code and
+// The field whose code stands at `at` in `unread`. Its bytes are read in the order that they stand in: with the code and
 // the function read behind the value's first byte, a call takes 16 bytes more of stack (bin/frames).
-pub(crate) fn command_at(held: &[u8], chunk: &[u8], kind: u8, at: usize) -> Command
+pub(crate) fn command_at(unread: Unread, kind: u8, at: usize) -> Command
     requires { at < 65536 }
-    ensures { result ≡ command_of kind (field_at at (held.now ++ chunk.now)) }
+    ensures { result ≡ command_of kind (field_at at (bytes_of unread.entry)) }
 {
-    let code = byte_over(held, chunk, at);
-    let size = byte_over(held, chunk, at + 1);
+    let code = unread.byte(at);
+    let size = unread.byte(at + 1);
     let n = count_of(size);
     let data = at + 2;
-    let function = data_byte(held, chunk, data, n, 0);
-    let first = data_byte(held, chunk, data, n, 1);
+    let function = data_byte(unread, data, n, 0);
+    let first = data_byte(unread, data, n, 1);
     Command {
         kind,
         code,
@@ -66,9 +63,9 @@ pub(crate) fn command_at(held: &[u8], chunk: &[u8], kind: u8, at: usize) -> Comm
         first,
         all: word::word_of(
             first,
-            data_byte(held, chunk, data, n, 2),
-            data_byte(held, chunk, data, n, 3),
-            data_byte(held, chunk, data, n, 4),
+            data_byte(unread, data, n, 2),
+            data_byte(unread, data, n, 3),
+            data_byte(unread, data, n, 4),
         ),
     }
 }
@@ -87,7 +84,7 @@ pub fn subject_of(kind: u8, code: u8) -> Subject
         return Subject::Unknown;
     }
     match page::setting_of(code) {
-        Coded::Setting(s) => Subject::Setting(s),
-        Coded::Nothing => Subject::Unknown,
+        Some(s) => Subject::Setting(s),
+        None => Subject::Unknown,
     }
 }

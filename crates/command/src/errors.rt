@@ -5,7 +5,7 @@ ghost use Rattle.command.specs.Effects.{Fits};
 ghost use Rattle.page.specs.Page.{is_there};
 ghost use Rattle.page.specs.Settings.{storable, not_on_this_board};
 ghost use Rattle.message.specs.Whole.{refuse};
-ghost use Rattle.command.specs.Answer.{loaded_from, number_on, page_access};
+ghost use Rattle.command.specs.Answer.{loaded_from, page_access};
 ghost use Rattle.command.specs.Errors.{is_unknown, is_function, size_right, function_right, field_wrong, not_on_board, alters, denied, is_kind, field_error};
 ghost use Rattle.command.specs.Outcome.{denial_of};
 ghost use Rattle.command.specs.declared.command.Subject.TheVariants.{Setting as About};
@@ -13,7 +13,7 @@ ghost use Rattle.command.specs.declared.command.Subject.TheVariants.{Setting as 
 use crate::command::{Command, Subject, count_of, subject_of};
 use crate::rights::Rights;
 use crate::settings::{looked_up, wide};
-use page::{Setting, Stored};
+use page::Setting;
 
 // The value that a command carries for a setting.
 pub(crate) fn value_for(setting: Setting, c: Command) -> u32
@@ -26,6 +26,7 @@ pub(crate) fn value_for(setting: Setting, c: Command) -> u32
     }
 }
 
+// Kept: tests by `if` and `match` (b). With `&&`, `||` and `matches!` in this file a feed takes 264 bytes of stack, over 256 (bin/frames).
 fn size_right(full: usize, size: usize, function: u8) -> bool
     ensures { result ≡ eqb size full || eqb size 1 && not (eqb function 1) }
 {
@@ -39,6 +40,7 @@ fn size_right(full: usize, size: usize, function: u8) -> bool
 }
 
 // The error of a value sent with function 1. Most are usable, so that is tested first.
+// Kept: numbers (b). With an enum of the errors and `Result<(), Error>` a feed takes 264 bytes of stack, over 256 (bin/frames).
 fn value_error(setting: Setting, value: u32) -> u8
     ensures { result ≡ refuse (not (storable setting value)) 4 (refuse (not_on_this_board setting value) 6 0) }
 {
@@ -49,6 +51,7 @@ fn value_error(setting: Setting, value: u32) -> u8
 }
 
 // The error of function 4, by what is loaded.
+// Kept: numbers (b). With an enum of the errors and `Result<(), Error>` a feed takes 264 bytes of stack, over 256 (bin/frames).
 fn load_error(setting: Setting, page: &[u8]) -> u8
     ensures { result ≡ refuse (not (is_there (loaded_from page.now setting))) 6 0 }
 {
@@ -60,6 +63,7 @@ fn load_error(setting: Setting, page: &[u8]) -> u8
 }
 
 // Whether the size or the function of a setting's field is wrong.
+// Kept: tests by `if` and `match` (b). With `&&`, `||` and `matches!` in this file a feed takes 264 bytes of stack, over 256 (bin/frames).
 fn is_malformed(setting: Setting, c: Command) -> bool
     ensures { result ≡ not (size_right (About setting) c) || not (function_right (About setting) c) }
 {
@@ -74,6 +78,7 @@ fn is_malformed(setting: Setting, c: Command) -> bool
 }
 
 // The error of a setting's own field: 4 by its size or its function, then 4 or 6 by the value that is sent or loaded.
+// Kept: numbers (b). With an enum of the errors and `Result<(), Error>` a feed takes 264 bytes of stack, over 256 (bin/frames).
 fn setting_error(setting: Setting, c: Command, page: &[u8]) -> u8
     ensures { result ≡ refuse (field_wrong (About setting) c) 4 (refuse (not_on_board (About setting) (loaded_from page.now) c) 6 0) }
 {
@@ -90,34 +95,27 @@ fn setting_error(setting: Setting, c: Command, page: &[u8]) -> u8
 }
 
 // Ping has size 0.
+// Kept: numbers (b). With an enum of the errors and `Result<(), Error>` a feed takes 264 bytes of stack, over 256 (bin/frames).
 fn ping_error(size: u8) -> u8
     ensures { result ≡ refuse (not (eqb size 0)) 4 0 }
 {
     if size == 0 { 0 } else { 4 }
 }
 
-// The error of a field whose code is known.
+// The error of a field that is not denied: 3 where its code is not one of its type's.
+// Kept: numbers (b). With an enum of the errors and `Result<(), Error>` a feed takes 264 bytes of stack, over 256 (bin/frames).
 fn own_error(subject: Subject, c: Command, page: &[u8]) -> u8
-    ensures { result ≡ refuse (field_wrong subject c) 4 (refuse (not_on_board subject (loaded_from page.now) c) 6 0) }
+    ensures { result ≡ refuse (is_unknown subject) 3 (refuse (field_wrong subject c) 4 (refuse (not_on_board subject (loaded_from page.now) c) 6 0)) }
 {
     match subject {
         Subject::Ping => ping_error(c.size),
         Subject::Setting(s) => setting_error(s, c, page),
-        Subject::Unknown => 4,
-    }
-}
-
-fn is_unknown(subject: Subject) -> bool
-    ensures { result ≡ is_unknown subject }
-{
-    match subject {
-        Subject::Ping => false,
-        Subject::Setting(_) => false,
-        Subject::Unknown => true,
+        Subject::Unknown => 3,
     }
 }
 
 // Whether it is function 1, 3, 4 or 5.
+// Kept: tests by `if` and `match` (b). With `&&`, `||` and `matches!` in this file a feed takes 264 bytes of stack, over 256 (bin/frames).
 fn is_altering(function: u8) -> bool
     ensures { result ≡ is_function function && not (eqb function 2) }
 {
@@ -131,6 +129,7 @@ fn is_altering(function: u8) -> bool
 }
 
 // Whether it is such a function of a setting.
+// Kept: tests by `if` and `match` (b). With `&&`, `||` and `matches!` in this file a feed takes 264 bytes of stack, over 256 (bin/frames).
 fn alters(subject: Subject, c: Command) -> bool
     ensures { result ≡ alters subject c }
 {
@@ -141,17 +140,8 @@ fn alters(subject: Subject, c: Command) -> bool
     }
 }
 
-// Whether the page keeps a number.
-fn keeps_number(page: &[u8]) -> bool
-    ensures { result ≡ is_there (number_on page.now) }
-{
-    match page::last_number(page) {
-        Stored::Absent => false,
-        Stored::Value(_) => true,
-    }
-}
-
 // The error of functions 1, 3, 4 and 5 under these rights, 0 where they are allowed.
+// Kept: numbers (b). With an enum of the errors and `Result<(), Error>` a feed takes 264 bytes of stack, over 256 (bin/frames).
 pub(crate) fn denial_of(rights: Rights, page: &[u8]) -> u8
     ensures { result ≡ denial_of page_access rights page.now }
 {
@@ -161,10 +151,15 @@ pub(crate) fn denial_of(rights: Rights, page: &[u8]) -> u8
     if !rights.guarded {
         return 0;
     }
-    if keeps_number(page) { 5 } else { 0 }
+    if page::last_number(page).is_some() {
+        5
+    } else {
+        0
+    }
 }
 
 // Whether a field asks for such a function where that is an error.
+// Kept: tests by `if` and `match` (b). With `&&`, `||` and `matches!` in this file a feed takes 264 bytes of stack, over 256 (bin/frames).
 fn is_denied(denial: u8, subject: Subject, c: Command) -> bool
     ensures { result ≡ denied denial subject c }
 {
@@ -174,14 +169,13 @@ fn is_denied(denial: u8, subject: Subject, c: Command) -> bool
     alters(subject, c)
 }
 
-// The error of one field, where functions 1, 3, 4 and 5 have the error `denial`.
+// The error of one field, where functions 1, 3, 4 and 5 have the error `denial`. A code that is not one of its type's alters nothing, so
+// that it is never denied.
+// Kept: numbers (b). With an enum of the errors and `Result<(), Error>` a feed takes 264 bytes of stack, over 256 (bin/frames).
 pub(crate) fn field_error(denial: u8, c: Command, page: &[u8]) -> u8
     ensures { result ≡ field_error denial (loaded_from page.now) c }
 {
     let subject = subject_of(c.kind, c.code);
-    if is_unknown(subject) {
-        return 3;
-    }
     if is_denied(denial, subject, c) {
         return denial;
     }
@@ -189,6 +183,7 @@ pub(crate) fn field_error(denial: u8, c: Command, page: &[u8]) -> u8
 }
 
 // The type is 01 or 02.
+// Kept: tests by `if` and `match` (b). With `&&`, `||` and `matches!` in this file a feed takes 264 bytes of stack, over 256 (bin/frames).
 pub(crate) fn is_kind(kind: u8) -> bool
     ensures { result ≡ is_kind kind }
 {

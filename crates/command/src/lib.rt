@@ -7,6 +7,7 @@ mod command;
 mod errors;
 mod fields;
 mod number;
+mod payload;
 mod place;
 mod refused;
 mod rights;

@@ -1,48 +1,50 @@
 // The number of a command of type 7C: its own errors, and how it is spent; and what a message comes to with it.
-ghost use Rattle.std.specs.Prelude.{◌≡◌, false, ◌++◌, ◌+◌, ◌-◌, ◌≤◌, ◌<◌, length, take, drop};
+ghost use Rattle.std.specs.Prelude.{◌≡◌, false, ◌≤◌, length};
+ghost use Rattle.command.specs.Payload.{bytes_in, Stands};
 ghost use Rattle.command.specs.Answer.{number_on};
 ghost use Rattle.command.specs.Numbers.{is_fresh, number_of, number_error};
 ghost use Rattle.command.specs.Place.{opening_of};
 
+use crate::payload::Payload;
 use crate::rights::Rights;
-use message::byte_over;
-use page::Stored;
 
 // Whether a number is larger than the kept one; with none kept, every number is fresh.
-fn is_fresh(last: Stored, number: u32) -> bool
+// Kept: a match, since with a closure in `is_none_or` a wrong test (equal_number_fresh) is refused by a limit of the proof search only.
+fn is_fresh(last: Option<u32>, number: u32) -> bool
     ensures { result ≡ is_fresh last number }
 {
     match last {
-        Stored::Absent => true,
-        Stored::Value(x) => x < number,
+        None => true,
+        Some(kept) => kept < number,
     }
 }
 
-// The number that the payload of the message at the front of `held` and then `chunk` starts with. The payload ends at `to`.
-fn number_in(held: &[u8], chunk: &[u8], to: usize) -> u32
-    requires { (8 ≤ to) × (8 ≤ length held.now + length chunk.now) }
-    ensures { result ≡ number_of (drop 4 (take to (held.now ++ chunk.now))) }
+// The number that a payload starts with.
+fn number_in(payload: Payload) -> u32
+    requires { 4 ≤ length (bytes_in payload) }
+    ensures { result ≡ number_of (bytes_in payload.entry) }
 {
     word::word_of(
-        byte_over(held, chunk, 4),
-        byte_over(held, chunk, 5),
-        byte_over(held, chunk, 6),
-        byte_over(held, chunk, 7),
+        payload.byte(0),
+        payload.byte(1),
+        payload.byte(2),
+        payload.byte(3),
     )
 }
 
-// The error of the number, whose payload ends at `to`: 0 where it is allowed and fresh.
-fn number_error(rights: Rights, held: &[u8], chunk: &[u8], to: usize, page: &[u8]) -> u8
-    requires { (4 ≤ to) × (to ≤ 4 + (length held.now + length chunk.now - 4)) }
-    ensures { result ≡ number_error rights (number_on page.now) (drop 4 (take to (held.now ++ chunk.now))) }
+// The error of the number of a payload: 0 where it is allowed and fresh.
+// Kept: numbers (b). With an enum of the errors and `Result<(), Error>` a feed takes 264 bytes of stack, over 256 (bin/frames).
+fn number_error(rights: Rights, payload: Payload, page: &[u8]) -> u8
+    requires { Stands payload }
+    ensures { result ≡ number_error rights (number_on page.now) (bytes_in payload.entry) }
 {
     if rights.readonly {
         return 7;
     }
-    if to < 9 {
+    if payload.len() < 5 {
         return 4;
     }
-    if is_fresh(page::last_number(page), number_in(held, chunk, to)) {
+    if is_fresh(page::last_number(page), number_in(payload)) {
         0
     } else {
         5
@@ -74,19 +76,16 @@ fn unnumbered(error: u8, kind: u8, from: usize) -> Opened
     }
 }
 
-// Opens the message of this type at the front of `held` and then `chunk`, whose payload ends at `to`: in type 7C the number is written
-// to the page, and the command stands behind it.
+// Opens the message of this type and payload: in type 7C the number is written to the page, and the command stands behind it.
 pub(crate) fn open_message(
     rights: Rights,
-    held: &[u8],
-    chunk: &[u8],
+    payload: Payload,
     good: bool,
     kind: u8,
-    to: usize,
     page: &mut [u8],
 ) -> Opened
-    requires { (4 ≤ to) × (to ≤ 4 + (length held.now + length chunk.now - 4)) }
-    ensures { record { opened = result; page = page.new } ≡ opening_of rights good kind (drop 4 (take to (held.now ++ chunk.now))) page.old }
+    requires { Stands payload }
+    ensures { record { opened = result; page = page.new } ≡ opening_of rights good kind (bytes_in payload.entry) page.old }
 {
     if !good {
         return unnumbered(1, kind, 4);
@@ -94,14 +93,14 @@ pub(crate) fn open_message(
     if kind != 0x7C {
         return unnumbered(0, kind, 4);
     }
-    let error = number_error(rights, held, chunk, to, page);
+    let error = number_error(rights, payload, page);
     if error != 0 {
         return unnumbered(error, kind, 9);
     }
-    page::put_last_number(number_in(held, chunk, to), page);
+    page::put_last_number(number_in(payload), page);
     Opened {
         error: 0,
-        kind: byte_over(held, chunk, 8),
+        kind: payload.byte(4),
         from: 9,
         numbered: true,
     }

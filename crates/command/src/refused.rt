@@ -39,7 +39,7 @@ pub fn answer_refused(kind: u8, echo: u8, error: u8, w: Settings, room: &mut [u8
         settings: w,
     };
     put_row(echo, error, start, room);
-    message::seal_message(kind, 4, room);
+    let _ = message::seal_message(kind, 4, room);
     Answer {
         saved: false,
         error,

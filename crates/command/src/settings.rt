@@ -5,10 +5,10 @@ ghost use Rattle.page.specs.Settings.{factory_value};
 ghost use Rattle.command.specs.Answer.{looked_up, loaded_from, settings_from};
 ghost use Rattle.command.specs.Effects.{working_value, with_working, Fits, settings_usable};
 
-use page::{Entry, Setting};
+use page::Setting;
 
 #[repr(C)]
-#[derive(Clone, Copy)]
+#[derive(Clone, Copy, PartialEq, Eq)]
 pub struct Settings {
     pub baud: u32,
     // the accelerometer's range
@@ -67,17 +67,16 @@ fn first_byte(s: &[u8]) -> u8
 }
 
 // The value of a setting in the body on the page if it has the entry, else the factory's value. No factory page is made for it: that
-// would be 64 bytes of stack. The page is handed on as a part, all of it, for the same reason as in page::check_page.
+// would be 64 bytes of stack. The page is handed on as a part, all of it: a caller then passes it in registers.
 #[inline(always)] // a feed takes less stack so (docs/DECISIONS.md)
 pub(crate) fn looked_up(page: &[u8], setting: Setting) -> u32
     ensures { (result ≡ looked_up page.now setting) × Fits setting result }
 {
     let whole = &page[0..];
-    let entry = page::find_entry(whole, page::code_of(setting));
-    let Entry::At(offset, n) = entry else {
+    let Some(entry) = page::find_entry(whole, page::code_of(setting)) else {
         return page::factory_value(setting);
     };
-    let body = page::part(whole, offset, n);
+    let body = page::part(whole, entry);
     match setting {
         Setting::Baud => word::number_of(body),
         Setting::Accelerometer => wide(first_byte(body)),

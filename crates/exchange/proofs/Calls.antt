@@ -10,8 +10,7 @@ use borrow.Author.Tests.{eqb-true, le-ltb}
 use Rattle.message.specs.Message.{message_of}
 use Rattle.message.specs.Theorems.{RoundTrip}
 use Rattle.message.proofs.RoundTrips.{written_is_read}
-use Rattle.page.specs.declared.setting.Stored.{Stored}
-use Rattle.page.specs.declared.setting.Stored.TheVariants.{Absent, Value}
+use Rattle.std.specs.Prelude.{Option, Some, None}
 use Rattle.page.specs.Page.{is_there}
 use Rattle.message.specs.Whole.{refuse}
 use Rattle.command.specs.declared.rights.Rights.{Rights}
@@ -41,9 +40,9 @@ undenied : (rights : Rights) (x : State (List ℕ)) (m : Received) → denial_of
     → message_outcome page_access rights x m ≡ message_outcome page_access all_rights x m
 undenied rights x m e = go rights.guarded rights.readonly e
   where
-    absent : (s : Stored) → refuse (is_there s) 5 0 ≡ 0 → s ≡ Absent
-    absent Absent e = refl
-    absent (Value n) e = absurd (omega (arith, e))
+    absent : (s : Option ℕ) → refuse (is_there s) 5 0 ≡ 0 → s ≡ None
+    absent None e = refl
+    absent (Some n) e = absurd (omega (arith, e))
 
     go : (g r : Bool) → denial_of page_access (record { guarded = g; readonly = r }) x.page ≡ 0
         → message_outcome page_access (record { guarded = g; readonly = r }) x m ≡ message_outcome page_access all_rights x m

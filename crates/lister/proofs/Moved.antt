@@ -1,10 +1,10 @@
 -- A feed that finds a message leaves fewer bytes to be looked at.
-use Prim.Native.Nat.{ℕ, zero, suc, ◌+◌, ◌-◌, ◌≤◌, ◌<◌}
+use Prim.Native.Nat.{ℕ, zero, suc, ◌+◌, ◌-◌, ◌≤◌}
 use native.Mathlib.Omega.{arith}
 use mathlib.Core.Path.{◌≡◌, refl, ap}
 use mathlib.Core.Bool.{Bool}
 use mathlib.Core.List.{List, ◌++◌}
-use lib.ListN.{length, take, drop, length-append, length-take, length-drop}
+use lib.ListN.{length, take, length-append, length-take, length-drop}
 use Rattle.stream.specs.declared.Sought.{Sought}
 use Rattle.stream.specs.declared.Sought.TheVariants.{Starved, Found}
 use Rattle.stream.specs.Seek.{seek, resume}
@@ -62,15 +62,3 @@ pub fed_moves : (bytes : List ℕ) (old : ℕ) (w : Settings) (profile : Profile
 fed_moves bytes old w profile totals chunk room page bytes_after totals_after room_after page_after s e =
     let g : s ≡ (place_of 0 bytes old 0 w profile totals chunk room page).step = ap (λ (x : Placing). x.step) e in
     rw g (feed_moves bytes old w totals chunk room page profile)
-
--- In a piece of which `at` bytes are taken.
-module _ (piece : List ℕ) (at held number taken after : ℕ) (h : at ≤ length piece)
-    (m : Moves held (take (length piece - at) (drop at piece)) number taken after) where
-  rest_length : length (take (length piece - at) (drop at piece)) ≡ length piece - at
-  rest_length = omega (arith, length-take (length piece - at) (drop at piece), length-drop at piece)
-
-  pub piece_inside : at + taken ≤ length piece
-  piece_inside = omega (arith, rest_length, m.inside)
-
-  pub piece_less : number ≡ 0 → after + (length piece - (at + taken)) < held + (length piece - at)
-  piece_less z = omega (arith, rest_length, m.inside, m.fewer z)

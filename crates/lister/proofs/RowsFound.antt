@@ -8,7 +8,7 @@ use lib.Dec.{ltb}
 use lib.ListN.{length}
 use borrow.Author.Tests.{eq-eqb, ne_eqb, le-ltb}
 use Rattle.page.specs.declared.setting.Setting.{Setting}
-use Rattle.page.specs.declared.setting.Stored.{Stored}
+use Rattle.std.specs.Prelude.{Option}
 use Rattle.page.specs.declared.setting.Setting.TheVariants.{Baud, Accelerometer, Gyroscope}
 use Rattle.listing.specs.Rows.{row_size}
 use Rattle.command.specs.declared.rights.Rights.{Rights}
@@ -33,7 +33,7 @@ report_value Baud x = (λ e. omega arith, refl)
 report_value Accelerometer x = (λ e. omega arith, refl)
 report_value Gyroscope x = (λ e. omega arith, refl)
 
-report_function : (f : ℕ) (loaded : Setting → Stored) (w : Settings) (s : Setting) (x : ℕ) → Report (function_effect f loaded w s x).report
+report_function : (f : ℕ) (loaded : Setting → Option ℕ) (w : Settings) (s : Setting) (x : ℕ) → Report (function_effect f loaded w s x).report
 report_function zero loaded w s x = tt
 report_function (suc zero) loaded w s x = tt
 report_function (suc (suc zero)) loaded w s x = report_value s (working_value w s)
@@ -41,12 +41,12 @@ report_function (suc (suc (suc zero))) loaded w s x = tt
 report_function (suc (suc (suc (suc zero)))) loaded w s x = tt
 report_function (suc (suc (suc (suc (suc f))))) loaded w s x = tt
 
-report_field : (subject : Subject) (loaded : Setting → Stored) (w : Settings) (c : Command) → Report (field_effect subject loaded w c).report
+report_field : (subject : Subject) (loaded : Setting → Option ℕ) (w : Settings) (c : Command) → Report (field_effect subject loaded w c).report
 report_field Ping loaded w c = tt
 report_field (About s) loaded w c = report_function c.function loaded w s (value_for s c)
 report_field Unknown loaded w c = tt
 
-report_effect : (denial : ℕ) (loaded : Setting → Stored) (w : Settings) (c : Command) → Report (effect_of denial loaded w c).report
+report_effect : (denial : ℕ) (loaded : Setting → Option ℕ) (w : Settings) (c : Command) → Report (effect_of denial loaded w c).report
 unfolding effect_of
 report_effect denial loaded w c = go (field_error denial loaded c)
   where

@@ -1,122 +1,89 @@
 // The feeds of a listing.
 ghost use Rattle.lister.specs.Moves.{Moves};
 
-use crate::output::{Gathered, flush, gather_rows, kind_of, payload_of};
-use board::{Board, Port};
+use crate::output::{self, Lines};
+use board::{Board, Port, Stepped};
 use command::Settings;
+use std::io;
+use totals::Tally;
 
-// How far a listing has come. The board is fed in place: what port 0 holds stays in an array of its own, and its totals in another, which
-// go along as lent slices, and port 1 holds nothing.
+// How far a listing has come. The board is fed in place: port 0 has its bytes, of which it holds some, and its totals, and port 1 holds
+// nothing.
 #[derive(Drop)]
-pub struct Progress {
-    // the bytes that port 0 holds, and the working values
+pub struct Listing {
+    rt: HostRuntime,
+    bytes: [u8; Port::ROOM],
     pub held: usize,
+    totals: [u64; Tally::ROW],
+    // the working values, and the page
     settings: Settings,
-    // the last feed's number, and what it took
-    number: u8,
-    last: usize,
-    // what is to be printed
-    pub gathered: Gathered,
+    page: [u8; 64],
+    lines: Lines,
 }
 
-impl Progress {
-    pub(crate) fn start(page: &[u8], gathered: Gathered) -> Self {
-        let started = board::start(Board::FULL, page);
-        let settings = started.board.settings;
-        Progress {
+impl Listing {
+    pub(crate) fn start(rt: HostRuntime) -> Self {
+        let page = [0xFFu8; 64];
+        let started = board::start(Board::FULL, &page);
+        Listing {
+            rt,
+            bytes: [0u8; Port::ROOM],
             held: 0,
-            settings,
-            number: 0,
-            last: 0,
-            gathered,
+            totals: [0u64; Tally::ROW],
+            settings: started.board.settings,
+            page,
+            lines: Lines::start(rt),
         }
     }
 
-    // The same with what is gathered written, or given up after a write that failed.
-    pub(crate) fn flush(self, rt: &impl Print, out: &[u8]) -> Self {
-        let settings = self.settings;
-        let before = self.gathered;
-        let gathered = flush(rt, before, out);
-        Progress {
-            held: self.held,
-            settings,
-            number: self.number,
-            last: self.last,
-            gathered,
-        }
+    pub(crate) fn write(&mut self) -> io::Result<()> {
+        self.lines.write()
     }
 
-    // One feed, and the lines of the message that it finds.
-    fn feed(
-        self,
-        rt: &impl Print,
-        bytes: &mut [u8],
-        totals: &mut [u64],
-        chunk: &[u8],
-        reply: &mut [u8],
-        page: &mut [u8],
-        out: &mut [u8],
-    ) -> Self
-        ensures { Moves self.held chunk.now result.number result.last result.held }
+    fn feed(&mut self, chunk: &[u8], reply: &mut [u8]) -> Stepped
+        ensures { Moves self.old.held chunk.now result.number result.taken self.new.held }
     {
         let fed = board::feed_in_place(
             0,
-            bytes,
+            &mut self.bytes,
             self.held,
             0,
             self.settings,
             Board::FULL,
-            totals,
+            &mut self.totals,
             chunk,
             reply,
-            page,
+            &mut self.page,
         );
-        let settings = fed.settings;
-        let before = self.gathered;
-        let gathered = gather_found(rt, fed.number, reply, fed.saved, before, out);
-        Progress {
-            held: fed.held,
-            settings,
-            number: fed.number,
-            last: fed.taken,
-            gathered,
+        self.held = fed.held;
+        self.settings = fed.settings;
+        fed
+    }
+
+    // Feeds a piece until a feed answers 1, and gathers the lines of each message that is found. That a feed which answers 0 leaves fewer
+    // bytes, held or in the piece, is in the contract of `feed`.
+    pub(crate) fn feed_all(&mut self, piece: &[u8]) -> io::Result<()> {
+        let mut reply = [0u8; Port::REPLY];
+        let mut rest = piece;
+        loop {
+            let fed = self.feed(rest, &mut reply);
+            if fed.number != 0 {
+                return Ok(());
+            }
+            self.lines.message(&reply, fed.saved)?;
+            rest = &rest[fed.taken..];
         }
     }
-}
 
-fn gather_found(
-    rt: &impl Print,
-    number: u8,
-    reply: &[u8],
-    saved: bool,
-    before: Gathered,
-    out: &mut [u8],
-) -> Gathered {
-    if number != 0 {
-        return before;
+    // Writes the counts, behind all the lines.
+    pub(crate) fn finish(&mut self) -> io::Result<()> {
+        self.lines
+            .counts(self.totals[0], self.totals[1], self.held)?;
+        self.lines.write()
     }
-    gather_rows(rt, kind_of(reply), payload_of(reply), saved, before, out)
-}
 
-// Feeds a piece until a feed answers 1. That a feed which answers 0 leaves fewer bytes, held or in the piece, is in the
-// contract of `feed`.
-pub(crate) fn feed_all(
-    rt: &impl Print,
-    start: Progress,
-    bytes: &mut [u8],
-    totals: &mut [u64],
-    piece: &[u8],
-    page: &mut [u8],
-    out: &mut [u8],
-) -> Progress {
-    let mut reply = [0u8; Port::REPLY];
-    let mut p = start;
-    let mut at = 0;
-    loop {
-        p = p.feed(rt, bytes, totals, &piece[at..], &mut reply, page, out);
-        if p.number != 0 {
-            return p;
-        }
-        at += p.last;
+    // Tells the totals, where all was read and written.
+    pub(crate) fn tell(&self) {
+        let _ = output::write_totals(&self.rt, &self.totals, self.held);
     }
 }

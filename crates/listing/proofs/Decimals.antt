@@ -3,14 +3,12 @@ use Prim.Native.Nat.{ℕ, zero, suc, ◌+◌, ◌-◌, ◌*◌, ◌/◌, ◌%◌
 use native.Mathlib.Omega.{arith}
 use mathlib.Core.Path.{◌≡◌, refl, ap, ◌∙◌, sym}
 use mathlib.Core.Bool.{Bool, true, false}
-use mathlib.Core.List.{List, [], ◌∷◌, ◌++◌, append_assoc}
+use mathlib.Core.List.{List, [], ◌∷◌, ◌++◌}
 use lib.Dec.{ltb}
-use lib.ListN.{length, take, drop, set, length-append, length-set, take-append-drop}
-use lib.Seq.{take-set-le, drop-cons, get_or-set_same, drop-set-lt, append_snoc}
+use lib.ListN.{length, drop, set, length-append, length-set, drop_of_length-le}
+use lib.Seq.{drop-cons, get_or-set_same, drop-set-lt, append_snoc}
 use borrow.Author.Tests.{lt-ltb, le-ltb, ltb-true, ltb-false}
-use Rattle.listing.specs.Put.{Put}
 use Rattle.listing.specs.Text.{digits, places, decimal_of}
-use Rattle.listing.proofs.Puts.{put_between}
 
 unfoldable pub tens : ℕ → ℕ
 tens zero = 1
@@ -27,39 +25,6 @@ pub places_more : (most n : ℕ) → 10 ≤ n → places (suc most) n ≡ suc (p
 unfolding places
 places_more most n h = rw (le-ltb n 10 h)
 
--- A number with a second digit is not under ten to the first power.
-second_digit : (q n : ℕ) → 10 ≤ n → n < tens (suc q) → 1 ≤ q
-unfolding tens
-second_digit zero n h k = omega arith
-second_digit (suc q) n h k = omega arith
-
-pub record Counting (k rest whole : ℕ) : Type 0 where
-  pub least : 1 ≤ k
-  pub most : k ≤ 20
-  pub fits : rest < tens (21 - k)
-  pub remains : places (21 - k) rest + k ≡ whole + 1
-
-pub counting_starts : (n : ℕ) → n < 18446744073709551616 → Counting 1 n (places 20 n)
-unfolding tens
-counting_starts n h = record { least = omega arith; most = omega arith; fits = omega arith; remains = refl }
-
-pub counting_goes_on : (k rest whole : ℕ) → 10 ≤ rest → Counting k rest whole → Counting (k + 1) (rest / 10) whole
-unfolding tens
-counting_goes_on k rest whole h c =
-    let q : ℕ = 20 - k in
-    let e : 21 - k ≡ suc (20 - k) = omega (arith, c.most) in
-    let f : 21 - (k + 1) ≡ 20 - k = omega arith in
-    let s : rest < tens (suc (20 - k)) = rw e at c.fits in
-    let o : 1 ≤ 20 - k = second_digit (20 - k) rest h s in
-    let r : suc (places (20 - k) (rest / 10)) + k ≡ whole + 1 = rw (e, places_more (20 - k) rest h) at c.remains in
-    record { least = omega arith; most = omega arith; fits = rw f (tenth_under rest (tens (20 - k)) s); remains = rw f (omega arith) }
-
-pub counting-ends : (k rest whole : ℕ) → rest < 10 → Counting k rest whole → k ≡ whole
-counting-ends k rest whole h c =
-    let e : 21 - k ≡ suc (20 - k) = omega (arith, c.most) in
-    let r : 1 + k ≡ whole + 1 = rw (e, places_one (20 - k) rest h) at c.remains in
-    omega arith
-
 -- ---- the digits
 
 pub digits-length : (k n : ℕ) → length (digits k n) ≡ k
@@ -71,56 +36,88 @@ pub decimal_length : (n : ℕ) → length (decimal_of n) ≡ places 20 n
 unfolding decimal_of
 decimal_length n = digits-length (places 20 n) n
 
--- The digits of n from place i on stand in the buffer, k in all; those before it are the digits of `left`.
-pub record Spelling (n at : ℕ) (before : List ℕ) (k i left : ℕ) (room : List ℕ) : Type 0 where
-  pub within : i ≤ k
-  pub same : length room ≡ length before
-  pub fits : at + k ≤ length before
-  pub front : take at room ≡ take at before
-  pub tail : digits i left ++ drop (at + i) room ≡ digits k n ++ drop (at + k) before
+-- ---- the digits of a number, the last behind those of its tenth
 
-pub spelling_starts : (n at k : ℕ) (room : List ℕ) → at + length (decimal_of n) ≤ length room → k ≡ places 20 n → Spelling n at room k k n room
-spelling_starts n at k room h e =
-    record { within = omega arith; same = refl; fits = omega (arith, decimal_length n); front = refl; tail = refl }
+-- More places than a number has tell as many.
+places_enough : (most n : ℕ) → n < tens (suc most) → places (suc (suc most)) n ≡ places (suc most) n
+unfolding tens
+places_enough zero n h = rw (places_one 1 n (omega arith), places_one 0 n (omega arith))
+places_enough (suc q) n h = go (ltb n 10) refl (places_enough q (n / 10) (tenth_under n (tens (suc q)) h))
+  where
+    go : (t : Bool) → ltb n 10 ≡ t → places (suc (suc q)) (n / 10) ≡ places (suc q) (n / 10) → places (suc (suc (suc q))) n ≡ places (suc (suc q)) n
+    go true e r = rw (places_one (suc (suc q)) n (ltb-true n 10 e), places_one (suc q) n (ltb-true n 10 e))
+    go false e r = rw (places_more (suc (suc q)) n (ltb-false n 10 e), places_more (suc q) n (ltb-false n 10 e), r)
 
-module _ (at j d : ℕ) (room : List ℕ) (h : at + j < length room) where
-  stored_front : take at (set room (at + j) d) ≡ take at room
-  stored_front = take-set-le at room (at + j) d (omega arith)
+pub decimal_one : (n : ℕ) → n < 10 → decimal_of n ≡ (48 + n % 10) ∷ []
+unfolding digits decimal_of
+decimal_one n h = rw (places_one 19 n h)
 
-  stored_tail : drop (at + j) (set room (at + j) d) ≡ d ∷ drop (suc (at + j)) room
-  stored_tail =
-      let l : at + j < length (set room (at + j) d) = rw length-set h in
-      drop-cons (set room (at + j) d) (at + j) 0 l ∙ rw (get_or-set_same room (at + j) d 0 h, drop-set-lt (suc (at + j)) room (at + j) d (omega arith))
+pub decimal_more : (n : ℕ) → n < 18446744073709551616 → 10 ≤ n → decimal_of n ≡ decimal_of (n / 10) ++ ((48 + n % 10) ∷ [])
+unfolding digits decimal_of tens
+decimal_more n h l = rw (places_more 19 n l, places_enough 18 (n / 10) (omega arith))
 
-pub spelling_goes_on : (n at : ℕ) (before : List ℕ) (k i left d : ℕ) (room : List ℕ) → 0 < i → d ≡ 48 + left % 10
-    → Spelling n at before k i left room → Spelling n at before k (i - 1) (left / 10) (set room (at + (i - 1)) d)
-unfolding digits
-spelling_goes_on n at before k i left d room h e s =
-    let j : ℕ = i - 1 in
-    let f : i ≡ suc (i - 1) = omega arith in
-    let g : at + suc (i - 1) ≡ suc (at + (i - 1)) = omega arith in
-    let l : at + (i - 1) < length room = omega (arith, s.within, s.same, s.fits) in
-    let t : digits (suc (i - 1)) left ++ drop (suc (at + (i - 1))) room ≡ digits k n ++ drop (at + k) before =
-    ap (λ (m : ℕ). digits (suc (i - 1)) left ++ drop m room) (sym g) ∙ ap (λ (m : ℕ). digits m left ++ drop (at + m) room) (sym f) ∙ s.tail in
+-- Those of n behind those of its part `left` stand in the row from `start` on.
+pub record Spelled (n left start : ℕ) (row : List ℕ) : Type 0 where
+  pub size : length row ≡ 20
+  pub before : start ≤ 19
+  pub fits : left < tens (suc start)
+  pub within : left ≤ n
+  pub more : 10 ≤ left → decimal_of (left / 10) ++ drop start row ≡ decimal_of n
+  pub done : left < 10 → drop start row ≡ decimal_of n
+
+-- A digit stored at a place stands before what is behind it.
+stored : (row : List ℕ) (i d : ℕ) → i < length row → drop i (set row i d) ≡ d ∷ drop (suc i) row
+stored row i d h =
+    let l : i < length (set row i d) = rw length-set h in
+    drop-cons (set row i d) i 0 l ∙ rw (get_or-set_same row i d 0 h, drop-set-lt (suc i) row i d (omega arith))
+
+pub spelling_starts : (n : ℕ) (row : List ℕ) → n < 18446744073709551616 → length row ≡ 20 → Spelled n n 19 (set row 19 (48 + n % 10))
+unfolding tens
+spelling_starts n row h l =
+    let k : length row ≤ 20 = omega arith in
+    let e : drop 19 (set row 19 (48 + n % 10)) ≡ (48 + n % 10) ∷ [] =
+    stored row 19 (48 + n % 10) (omega arith) ∙ ap (λ (t : List ℕ). (48 + n % 10) ∷ t) (drop_of_length-le row k) in
     record {
-      within = omega (arith, s.within);
-      same = length-set room (at + (i - 1)) d ∙ s.same;
-      fits = s.fits;
-      front = stored_front at (i - 1) d room l ∙ s.front;
-      tail = rw (stored_tail at (i - 1) d room l, e) (sym (append_snoc (digits (i - 1) (left / 10)) (48 + left % 10) (drop (suc (at + (i - 1))) room)) ∙ t);
+      size = rw length-set l;
+      before = omega arith;
+      fits = omega arith;
+      within = omega arith;
+      more = λ m. rw e (sym (decimal_more n h m));
+      done = λ m. e ∙ sym (decimal_one n m);
     }
 
-pub spelling_ends : (n at : ℕ) (before : List ℕ) (k i left : ℕ) (room : List ℕ) → k ≡ places 20 n → i ≤ 0
-    → Spelling n at before k i left room → Put at (decimal_of n) before room (at + k)
-unfolding digits decimal_of
-spelling_ends n at before k i left room e h s =
-    let z : i ≡ 0 = omega arith in
-    let y : at + i ≡ at = omega arith in
-    let l : length (decimal_of n) ≡ k = decimal_length n ∙ sym e in
-    let t : drop at room ≡ digits k n ++ drop (at + k) before = ap (λ (m : ℕ). drop m room) (sym y) ∙ ap (λ (m : ℕ). digits m left ++ drop (at + i) room) (sym z) ∙ s.tail in
-    let r : room ≡ take at before ++ digits k n ++ drop (at + k) before =
-    sym (take-append-drop at room) ∙ rw (s.front, t) (sym (append_assoc (take at before) (digits k n) (drop (at + k) before))) in
-    rw (← l) (put_between before at (decimal_of n) room (omega (arith, s.fits)) (rw (l, ← e) r))
+one_left : (left start : ℕ) → 10 ≤ left → left < tens (suc start) → 0 < start
+unfolding tens
+one_left left zero m h = omega arith
+one_left left (suc i) m h = omega arith
+
+tenth_fits : (left start : ℕ) → 0 < start → left < tens (suc start) → left / 10 < tens (suc (start - 1))
+unfolding tens
+tenth_fits left zero p h = absurd (omega arith)
+tenth_fits left (suc i) p h = let e : suc i - 1 ≡ i = omega arith in rw e (tenth_under left (10 * tens i) h)
+
+pub one_goes_on : (n left start : ℕ) (row : List ℕ) → 10 ≤ left → Spelled n left start row → 1 ≤ start
+one_goes_on n left start row m s = one_left left start m s.fits
+
+pub spelling_goes_on : (n left start : ℕ) (row : List ℕ) → n < 18446744073709551616 → 10 ≤ left → Spelled n left start row
+    → Spelled n (left / 10) (start - 1) (set row (start - 1) (48 + left / 10 % 10))
+spelling_goes_on n left start row h m s =
+    let some : 0 < start = one_left left start m s.fits in
+    let f : suc (start - 1) ≡ start = omega arith in
+    let q : ℕ = left / 10 in
+    let e : drop (start - 1) (set row (start - 1) (48 + q % 10)) ≡ (48 + q % 10) ∷ drop start row =
+    stored row (start - 1) (48 + q % 10) (omega (arith, s.size, s.before)) ∙ ap (λ (i : ℕ). (48 + q % 10) ∷ drop i row) f in
+    record {
+      size = rw length-set s.size;
+      before = omega (arith, s.before);
+      fits = tenth_fits left start some s.fits;
+      within = omega (arith, s.within);
+      more =
+          λ k. rw e
+          (sym (append_snoc (decimal_of (q / 10)) (48 + q % 10) (drop start row))
+          ∙ ap (λ (l : List ℕ). l ++ drop start row) (sym (decimal_more q (omega (arith, s.within)) k)) ∙ s.more m);
+      done = λ k. e ∙ ap (λ (l : List ℕ). l ++ drop start row) (sym (decimal_one q k)) ∙ s.more m;
+    }
 
 -- ---- how long
 
@@ -146,6 +143,3 @@ byte_digits n h = rw decimal_length (places_under 2 20 n (omega arith))
 pub word-digits : (n : ℕ) → n < 18446744073709551616 → length (decimal_of n) ≤ 20
 unfolding tens
 word-digits n h = rw decimal_length (places_under 19 20 n (omega arith))
-
-pub count_length : (name : List ℕ) (n : ℕ) → n < 18446744073709551616 → length (name ++ decimal_of n) ≤ length name + 20
-count_length name n h = rw length-append (omega (arith, word-digits n h))

@@ -1,5 +1,4 @@
 pub mod Backs
 pub mod Decimals
+pub mod Lines
 pub mod Longest
-pub mod Puts
-pub mod RowSizes

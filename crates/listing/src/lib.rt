@@ -2,7 +2,7 @@
 // in specs/.
 #![tactic(auto)]
 
-mod put;
+mod line;
 mod rows;
 mod writers;
 

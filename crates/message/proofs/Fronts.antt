@@ -1,5 +1,5 @@
 -- What stands at a place of a row of bytes w.
-use Rattle.std.proofs.Common.{◌≡◌, ℕ, ◌+◌, ◌-◌, ◌<◌, ◌≤◌, Bool, List, [], ◌++◌, length, take, drop, sym, refl, ◌∙◌, append-nil, arith, length-drop, drop_of_length-le, take_all}
+use Rattle.std.proofs.Common.{◌≡◌, ℕ, ◌+◌, ◌-◌, ◌<◌, ◌≤◌, Bool, List, length, take, drop, sym, ap, ◌∙◌, arith, length-drop, drop_of_length-le, take_all}
 use native.Mathlib.Decide.{dec_lt}
 use Rattle.stream.specs.declared.Verdict.{Verdict}
 use Rattle.stream.specs.declared.Verdict.TheVariants.{Skip, Undecided, Whole}
@@ -13,13 +13,9 @@ pub front-none : (w : List ℕ) (at : ℕ) → length w ≤ at → Undecided ≡
 unfolding front
 front-none w at h = rw (drop_of_length-le w h)
 
--- The part of w from `at` on, with nothing behind it, is what w has from there.
-pub opening_here : (w : List ℕ) (at : ℕ) (o : Opening)
-    → o ≡ opening_of (take (length w - at) (drop at w) ++ take (0 - 0) (drop 0 (take (length w - at) (drop at w)))) → o ≡ opening_of (drop at w)
-opening_here w at o is =
-    let all : take (length w - at) (drop at w) ≡ drop at w = take_all (length w - at) (drop at w) (rw length-drop (omega arith)) in
-    let none : take (0 - 0) (drop 0 (take (length w - at) (drop at w))) ≡ [] = refl in
-    rw (none, all, append-nil (drop at w)) at is
+-- The part of w from `at` on is what w has from there.
+pub opening_here : (w : List ℕ) (at : ℕ) (u : List ℕ) (o : Opening) → u ≡ take (length w - at) (drop at w) → o ≡ opening_of u → o ≡ opening_of (drop at w)
+opening_here w at u o e is = is ∙ ap opening_of (e ∙ take_all (length w - at) (drop at w) (rw length-drop (omega arith)))
 
 -- A complete message is within w.
 pub complete_within : (w : List ℕ) (at : ℕ) (o : Opening) → o ≡ opening_of (drop at w) → (n : ℕ) → o ≡ Complete n → at < length w → (2 ≤ n) × (at + n ≤ length w)

@@ -1,18 +1,20 @@
 -- The laws of bytes that are passed over.
-use Rattle.std.proofs.Common.{◌≡◌, ℕ, zero, suc, ◌+◌, ◌-◌, ◌<◌, ◌≤◌, Bool, true, false, ◌||◌, eqb, List, [], ◌++◌, length, get_or, take, drop, sym, refl, ap, ◌∙◌, subst, append-nil, add-zero, add-one, arith, length-append, length-drop, drop_of_length-le, get_or-drop, take_all, drop-cons, drop-drop, eq-eqb, eqb-true}
-use native.Mathlib.Nat.{add-sub_cancel_left}
-use mathlib.Core.Bool.{beq, or_assoc, or-false}
+use Rattle.std.proofs.Common.{◌≡◌, ℕ, zero, suc, ◌+◌, ◌-◌, ◌<◌, ◌≤◌, Bool, true, false, eqb, List, [], ◌++◌, length, get_or, take, drop, sym, refl, ap, ◌∙◌, subst, append-nil, add-zero, arith, length-append, length-drop, get_or-drop, take_all, drop-drop, eq-eqb, eqb-true}
 use lib.ListN.{get_or-append}
-use lib.Seq.{drop-append-le}
-use borrow.Author.Tests.{eqb-false}
+use lib.Seq.{drop-append-le, drop-append_seam}
+use borrow.Author.Tests.{eqb-false, ltb-false}
+use Rattle.std.specs.Option.{unwrap_or}
+use Rattle.std.specs.List.{position_or_len}
+use Rattle.std.proofs.lemmas.List.{take_rest}
+use Rattle.std.proofs.lemmas.List.Sums.{fails_before_first, prefix_len-le-length}
+use Rattle.std.proofs.Common.{not, cond, ltb, Option, Some, None}
 use Rattle.stream.specs.declared.Verdict.TheVariants.{Skip}
 use Rattle.stream.specs.Seek.{beyond, seek}
 use Rattle.stream.specs.Silence.{End, up_to}
-use Rattle.stream.proofs.Bools.{or_neither}
 use Rattle.stream.proofs.Ends.{skip_up_to}
 use Rattle.stream.proofs.Seeks.{seek_starts, seek-skips, beyond_zero, beyond-beyond}
 use Rattle.message.specs.Front.{opens, front}
-use Rattle.message.specs.Skips.{any_a5, SkippedPart, RunAt}
+use Rattle.message.specs.Skips.{SkippedPart, RunAt}
 use Rattle.message.proofs.Openings.{opens_first, opens_bytes, front_skip}
 
 -- ---- one place after the other
@@ -77,9 +79,6 @@ module _ (s : List ℕ) where
           ∙ rw (is 0 v (omega arith) (rw add-zero x), is 1 v (omega arith) y, is 2 v h z)
 
 -- A run of A5.
-pub run_starts : (s : List ℕ) (from : ℕ) → 2 ≤ length s - from → get_or s from 0 ≡ 0xA5 → get_or s (from + 1) 0 ≡ 0xA5 → RunAt s from from
-run_starts s from h x y = record { room = omega arith; first = x; second = y; before = skips-none s from (omega arith) }
-
 pub run_more : (s : List ℕ) (from i : ℕ) → i + 2 < length s → get_or s (i + 2) 0 ≡ 0xA5 → RunAt s from i → RunAt s from (i + 1)
 run_more s from i h z run =
     let k : i + 2 ≡ i + 1 + 1 = omega arith in
@@ -87,51 +86,81 @@ run_more s from i h z run =
 
 -- ---- blocks
 
-module _ (is : Bool) (b : List ℕ) (i : ℕ) (found : Bool) (inv : any_a5 is b ≡ found || any_a5 is (drop i b)) where
-  pub byte_more : i < length b → any_a5 is b ≡ (found || beq (eqb (get_or b i 0) 0xA5) is) || any_a5 is (drop (i + 1) b)
-  byte_more h = inv ∙ rw (drop-cons b i 0 h, add-one, or_assoc)
+-- A chunk of 16 bytes of s at i, and what is behind it.
+pub record Chunk (s : List ℕ) (i : ℕ) (block rest : List ℕ) : Type 0 where
+  pub room : i + 16 ≤ length s
+  pub behind : drop (i + 16) s ≡ rest
+  pub bytes : (k : ℕ) → k < 16 → get_or s (i + k) 0 ≡ get_or block k 0
+  pub sixteen : length block ≡ 16
 
-  pub byte_all : length b ≤ i → found ≡ any_a5 is b
-  byte_all h = sym (inv ∙ rw (drop_of_length-le b h, or-false))
+pub chunk_here : (s : List ℕ) (i : ℕ) (block rest : List ℕ) → drop i s ≡ block ++ rest → length block ≡ 16 → Chunk s i block rest
+chunk_here s i block rest e n =
+    record {
+      room = omega (arith, ap length e, length-append block rest, length-drop i s);
+      behind = rw (← drop-drop 16 i s, e, ← n) (drop-append_seam block rest);
+      bytes = λ k h. sym (get_or-drop i s k 0) ∙ rw e (get_or-append block rest 0 k (omega arith));
+      sixteen = n;
+    }
 
--- A block of n bytes without such a byte: its first is not one, and the rest has none.
-block_cons : (is : Bool) (s : List ℕ) (i n : ℕ) → i < length s → any_a5 is (take (suc n) (drop i s)) ≡ false
-    → (beq (eqb (get_or s i 0) 0xA5) is ≡ false) × (any_a5 is (take n (drop (i + 1) s)) ≡ false)
-block_cons is s i n h e =
-    rw add-one (or_neither (beq (eqb (get_or s i 0) 0xA5) is) (any_a5 is (take n (drop (suc i) s))) (rw (drop-cons s i 0 h) at e))
+module _ (s : List ℕ) (from i : ℕ) where
+  skips_others : (n : ℕ) → i + n ≤ length s → ((k : ℕ) → k < n → eqb (get_or s (i + k) 0) 0xA5 ≡ false) → SkippedPart s from i → SkippedPart s from (i + n)
+  skips_others zero h other before = rw add-zero before
+  skips_others (suc n) h other before =
+      let k : i + n + 1 ≡ i + suc n = omega arith in
+      rw k at
+      (skips_other s from (i + n) (omega arith) (eqb-false _ _ (other n (omega arith))) (skips_others n (omega arith) (λ k l. other k (omega arith)) before))
 
-beq_true : (b : Bool) → beq b true ≡ false → b ≡ false
-beq_true true e = e
-beq_true false e = refl
+  run_goes_on : (n : ℕ) → i + 2 + n ≤ length s → ((k : ℕ) → k < n → eqb (get_or s (i + 2 + k) 0) 0xA5 ≡ true) → RunAt s from i → RunAt s from (i + n)
+  run_goes_on zero h same run = rw add-zero run
+  run_goes_on (suc n) h same run =
+      let k : i + n + 1 ≡ i + suc n = omega arith in
+      let j : i + 2 + n ≡ i + n + 2 = omega arith in
+      rw k at
+      (run_more s from (i + n) (omega arith) (rw j at (eqb-true _ _ (same n (omega arith)))) (run_goes_on n (omega arith) (λ k l. same k (omega arith)) run))
 
-beq_false : (b : Bool) → beq b false ≡ false → b ≡ true
-beq_false true e = refl
-beq_false false e = sym e
+not_false : (b : Bool) → not b ≡ false → b ≡ true
+not_false true e = refl
+not_false false e = sym e
 
-skips_others : (s : List ℕ) (from i n : ℕ) → i + n ≤ length s → any_a5 true (take n (drop i s)) ≡ false → SkippedPart s from i → SkippedPart s from (i + n)
-skips_others s from i zero h e before = rw add-zero before
-skips_others s from i (suc n) h e before =
-    let b = block_cons true s i n (omega arith) e in
-    let k : i + 1 + n ≡ i + suc n = omega arith in
-    rw k at (skips_others s from (i + 1) n (omega arith) b.1 (skips_other s from i (omega arith) (eqb-false _ _ (beq_true _ b.0)) before))
+-- Up to the first A5, or the first other byte.
+module _ (s : List ℕ) (from i n : ℕ) where
+  pub skips_to : n ≡ position_or_len (λ b. eqb b 0xA5) (take (length s - i) (drop i s)) → SkippedPart s from i → SkippedPart s from (i + n)
+  skips_to found before =
+      let e : n ≡ position_or_len (λ b. eqb b 0xA5) (drop i s) = found ∙ ap (position_or_len (λ b. eqb b 0xA5)) (take_rest s i) in
+      let h : n ≤ length (drop i s) = rw e (prefix_len-le-length _ (drop i s)) in
+      let a : i ≤ length s = before.inside in
+      skips_others s from i n (omega (arith, length-drop i s)) (λ k l. ap (λ b. eqb b 0xA5) (sym (get_or-drop i s k 0)) ∙ fails_before_first _ (drop i s) k 0 (rw e at l)) before
 
-pub skips_block : (s : List ℕ) (from i : ℕ) → 16 ≤ length s - i → (found : Bool) → found ≡ any_a5 true (take (i + 16 - i) (drop i s)) → found ≡ false
-    → SkippedPart s from i → SkippedPart s from (i + 16)
-skips_block s from i h found is e before = skips_others s from i 16 (omega arith) (rw add-sub_cancel_left at (sym is ∙ e)) before
+  pub run_to : n ≡ position_or_len (λ b. not (eqb b 0xA5)) (take (length s - (i + 2)) (drop (i + 2) s)) → RunAt s from i → SkippedPart s from (i + n)
+  run_to found run =
+      let e : n ≡ position_or_len (λ b. not (eqb b 0xA5)) (drop (i + 2) s) = found ∙ ap (position_or_len (λ b. not (eqb b 0xA5))) (take_rest s (i + 2)) in
+      let h : n ≤ length (drop (i + 2) s) = rw e (prefix_len-le-length _ (drop (i + 2) s)) in
+      let a : i + 2 ≤ length s = run.room in
+      (run_goes_on s from i n (omega (arith, length-drop (i + 2) s))
+      (λ k l. ap (λ b. eqb b 0xA5) (sym (get_or-drop (i + 2) s k 0)) ∙ not_false _ (fails_before_first _ (drop (i + 2) s) k 0 (rw e at l))) run).before
 
-run_unbroken : (s : List ℕ) (from i n : ℕ) → i + 2 + n ≤ length s → any_a5 false (take n (drop (i + 2) s)) ≡ false → RunAt s from i → RunAt s from (i + n)
-run_unbroken s from i zero h e run = rw add-zero run
-run_unbroken s from i (suc n) h e run =
-    let b = block_cons false s (i + 2) n (omega arith) e in
-    let j : i + 2 + 1 ≡ i + 1 + 2 = omega arith in
-    let k : i + 1 + n ≡ i + suc n = omega arith in
-    rw k at (run_unbroken s from (i + 1) n (omega arith) (rw j at b.1) (run_more s from i (omega arith) (eqb-true _ _ (beq_false _ b.0)) run))
+-- What `position` finds, or else the length.
+pub first_or_len : (test : ℕ → Bool) (xs : List ℕ) (r : Option ℕ) (n : ℕ)
+    → r ≡ cond (ltb (position_or_len test xs) (length xs)) (Some (position_or_len test xs)) None → n ≡ unwrap_or r (length xs) → n ≡ position_or_len test xs
+first_or_len test xs r n found e = e ∙ rw found (go (ltb (position_or_len test xs) (length xs)) refl)
+  where
+    go : (b : Bool) → ltb (position_or_len test xs) (length xs) ≡ b → unwrap_or (cond b (Some (position_or_len test xs)) None) (length xs) ≡ position_or_len test xs
+    go true e = refl
+    go false e = omega (arith, prefix_len-le-length (λ x. not (test x)) xs, ltb-false _ _ e)
 
-pub run_block : (s : List ℕ) (from i : ℕ) → 18 ≤ length s - i → (found : Bool) → found ≡ any_a5 false (take (i + 18 - (i + 2)) (drop (i + 2) s)) → found ≡ false
-    → RunAt s from i → RunAt s from (i + 16)
-run_block s from i h found is e run =
-    let k : i + 18 - (i + 2) ≡ 16 = omega arith in
-    run_unbroken s from i 16 (omega arith) (rw k at (sym is ∙ e)) run
+module _ {s block rest : List ℕ} {from i : ℕ} where
+  pub skips_block : Chunk s i block rest → ((k : ℕ) → k < length block → eqb (get_or block k 0) 0xA5 ≡ false) → SkippedPart s from i → SkippedPart s from (i + 16)
+  skips_block c other before =
+      let b : length block ≡ 16 = c.sixteen in
+      skips_others s from i 16 c.room (λ k h. ap (λ x. eqb x 0xA5) (c.bytes k h) ∙ other k (omega arith)) before
+
+  pub run_block : Chunk s (i + 2) block rest → ((k : ℕ) → k < length block → eqb (get_or block k 0) 0xA5 ≡ true) → RunAt s from i → RunAt s from (i + 16)
+  run_block c same run =
+      let b : length block ≡ 16 = c.sixteen in
+      run_goes_on s from i 16 c.room (λ k h. ap (λ x. eqb x 0xA5) (c.bytes k h) ∙ same k (omega arith)) run
+
+pub run_behind : (s block rest : List ℕ) (i : ℕ) → Chunk s (i + 2) block rest → drop (i + 16 + 2) s ≡ rest
+run_behind s block rest i c = let k : i + 16 + 2 ≡ i + 2 + 16 = omega arith in rw k c.behind
 
 -- ---- a seek that goes on behind them
 

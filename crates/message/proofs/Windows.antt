@@ -59,11 +59,9 @@ module _ (held chunk : List ℕ) where
   pub front_chunk : (at : ℕ) (d : Verdict) → length held ≤ at → d ≡ front (drop (at - length held) chunk) → d ≡ front (drop at (held ++ chunk))
   front_chunk at d h e = e ∙ ap front (drop_chunk at h)
 
-  -- From a place that is held on: the rest of the held bytes, then the chunk.
-  pub opening-held : (at : ℕ) (o : Opening) → at < length held → o ≡ opening_of (take (length held - at) (drop at held) ++ chunk) → o ≡ opening_of (drop at (held ++ chunk))
-  opening-held at o h is =
-      let all : take (length held - at) (drop at held) ≡ drop at held = take_all (length held - at) (drop at held) (rw length-drop (omega arith)) in
-      rw (drop-append-le at held chunk (omega arith)) (rw all at is)
+  -- From a place on: what is left behind it.
+  pub opening_after : (at : ℕ) (u : List ℕ) (o : Opening) → u ≡ drop at (held ++ chunk) → o ≡ opening_of u → o ≡ opening_of (drop at (held ++ chunk))
+  opening_after at u o e is = is ∙ ap opening_of e
 
   pub complete_over : (at : ℕ) (o : Opening) → at < length held → o ≡ opening_of (drop at (held ++ chunk)) → (n : ℕ) → o ≡ Complete n
       → (2 ≤ n) × (at ≤ length held) × (at + n ≤ length held + length chunk)

@@ -5,5 +5,6 @@ pub mod Header
 pub mod Message
 pub mod Skips
 pub mod Theorems
+pub mod Unread
 pub mod Whole
 pub mod Write

@@ -1,14 +1,8 @@
 -- Internal, for the contracts of the code: bytes that are passed over in a loop, since they are skipped whatever follows.
-use Rattle.std.specs.Prelude.{◌≡◌, ℕ, ◌+◌, ◌-◌, ◌≤◌, Bool, false, ◌||◌, List, [], ◌∷◌, ◌++◌, length, drop, ◌==◌, slice_index_or}
-use Rattle.std.specs.Bool.{beq}
+use Rattle.std.specs.Prelude.{◌≡◌, ℕ, ◌+◌, ◌-◌, ◌≤◌, List, ◌++◌, length, drop, slice_index_or}
 use Rattle.stream.specs.Seek.{beyond, seek}
 use Rattle.stream.specs.Silence.{End, up_to}
 use Rattle.message.specs.Front.{front}
-
--- Is one of the bytes A5 (true), or is one that is not (false)?
-abbrev pub any_a5 : Bool → List ℕ → Bool
-any_a5 is [] = false
-any_a5 is (b ∷ bs) = beq (b == 0xA5) is || any_a5 is bs
 
 -- The bytes of s from `from` up to `to` are skipped, whatever follows s and however that ends.
 pub record SkippedPart (s : List ℕ) (from to : ℕ) : Type 0 where

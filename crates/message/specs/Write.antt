@@ -1,5 +1,8 @@
 -- Document 01, "Numbers of the calls": what a writer answers and what it leaves in the room.
-use Rattle.std.specs.Prelude.{ℕ, ◌+◌, Bool, true, false, List, ◌++◌, length, take, drop, nat_lt}
+use Rattle.std.specs.Prelude.{ℕ, ◌+◌, Bool, true, false, cond, List, ◌++◌, length, take, drop, nat_lt, Result, Ok, Err}
+use Rattle.refusal.specs.declared.Refusal.{Refusal}
+use Rattle.refusal.specs.declared.Refusal.TheVariants.{Payload, Room}
+use Rattle.refusal.specs.Refusal.{refusal_number}
 use Rattle.message.specs.declared.write.Written.{Written}
 use Rattle.message.specs.Message.{message_of}
 
@@ -7,6 +10,11 @@ use Rattle.message.specs.Message.{message_of}
 pub record Writing : Type 0 where
   pub answer : Written
   pub room : List ℕ
+
+-- The paper's number and length of an answer: 0 and the length where it is written, the refusal's number and length 0 where not.
+abbrev pub written_of : Result ℕ Refusal → Written
+written_of (Ok n) = record { number = 0; length = n }
+written_of (Err r) = record { number = refusal_number r; length = 0 }
 
 -- A refusal: its number, length 0, and nothing is written.
 abbrev pub refused_writing : ℕ → List ℕ → Writing
@@ -37,3 +45,7 @@ plain_writing kind payload room = refuse_writing (nat_lt 255 (length payload)) 2
 unfoldable pub sealing : ℕ → ℕ → List ℕ → Writing
 sealing kind n room =
     refuse_writing (nat_lt 255 n) 26 room (refuse_writing (nat_lt (length room) (n + 6)) 18 room (done_writing (message_of kind (take n (drop 4 room))) room))
+
+-- The size of a message with n payload bytes in a room of so many: too many bytes are refused before too small a room.
+abbrev pub size_in : ℕ → ℕ → Result ℕ Refusal
+size_in n room = cond (nat_lt 255 n) (Err Payload) (cond (nat_lt room (n + 6)) (Err Room) (Ok (n + 6)))

@@ -6,8 +6,9 @@ ghost use Rattle.message.specs.Message.{sums_right};
 ghost use Rattle.message.specs.Front.{front};
 
 use crate::fletcher::Sums;
-use crate::header::{Opening, opening_over};
+use crate::header::Opening;
 use crate::skips::past_skips;
+use crate::unread::Unread;
 use stream::{Sought, Verdict};
 
 // Whether the last two of the `n` bytes from `at` are the sums of those before them.
@@ -17,11 +18,7 @@ pub(crate) fn sums_right(s: &[u8], at: usize, n: usize) -> bool
 {
     let e = at + (n - 2);
     let t = Sums::new().over(&s[at..e]);
-    if s[e] == t.f1 {
-        s[e + 1] == t.f2
-    } else {
-        false
-    }
+    s[e] == t.f1 && s[e + 1] == t.f2
 }
 
 // What stands at the front of the bytes of `s` from `at` on.
@@ -31,8 +28,7 @@ pub fn front_at(s: &[u8], at: usize) -> Verdict
     if s.len() <= at {
         return Verdict::Undecided;
     }
-    let u = &s[at..];
-    match opening_over(u, &u[0..0]) {
+    match Unread::from(&s[at..]).opening() {
         Opening::NoMessage => Verdict::Skip,
         Opening::Incomplete => Verdict::Undecided,
         Opening::Complete(n) => Verdict::Whole(n, sums_right(s, at, n)),
@@ -46,22 +42,10 @@ pub fn seek(s: &[u8], ended: bool) -> Sought
     let mut at = 0;
     loop {
         match front_at(s, at) {
-            Verdict::Skip => {
-                at = past_skips(s, at + 1);
-            }
-            Verdict::Undecided => {
-                if ended {
-                    if s.len() <= at {
-                        return Sought::Starved(at);
-                    }
-                    at += 1;
-                } else {
-                    return Sought::Starved(at);
-                }
-            }
-            Verdict::Whole(n, good) => {
-                return Sought::Found(at, n, good);
-            }
+            Verdict::Skip => at = past_skips(s, at + 1),
+            Verdict::Undecided if ended && at < s.len() => at += 1,
+            Verdict::Undecided => return Sought::Starved(at),
+            Verdict::Whole(n, good) => return Sought::Found(at, n, good),
         }
     }
 }

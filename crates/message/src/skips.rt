@@ -1,18 +1,17 @@
 // Bytes that the scan skips whatever follows them: noise, and a run of A5 but for its last two. A loop of its own for each, since a
 // loop with a message's tests in it is slower.
-ghost use Rattle.std.specs.Prelude.{◌≡◌, ◌≤◌, length};
-ghost use Rattle.message.specs.Skips.{any_a5, SkippedPart, RunAt};
+ghost use Rattle.std.specs.Prelude.{◌≡◌, ◌≤◌, ◌<◌, ℕ, true, false, length, slice_index_or};
+ghost use Rattle.message.specs.Skips.{SkippedPart, RunAt};
 
-// Whether one of the bytes is A5, or with `is` false whether one is not. There is no branch out of the loop, so that a block of
-// fixed length is tested at once.
-fn any_a5(block: &[u8], is: bool) -> bool
-    ensures { result ≡ any_a5 is block.now }
+// Whether one of the bytes passes the test. There is no branch out of the loop, so that a block of fixed length is tested at once.
+fn any<F: Fn(u8) -> bool>(block: &[u8], test: F) -> bool
+    requires { F.IsAlwaysCallable test }
+    ensures one { result ≡ true → (k : ℕ) × (k < length block.now) × F.post test (slice_index_or block.now k 0) true }
+    ensures none { result ≡ false → (k : ℕ) → k < length block.now → F.post test (slice_index_or block.now k 0) false }
 {
     let mut found = false;
-    let mut i = 0;
-    while i < block.len() {
-        found = found | ((block[i] == 0xA5) == is);
-        i += 1;
+    for &b in block {
+        found |= test(b);
     }
     found
 }
@@ -23,8 +22,8 @@ fn past_blocks(s: &[u8], from: usize) -> usize
     ensures { SkippedPart s.now from result }
 {
     let mut i = from;
-    while 16 <= s.len() - i {
-        if any_a5(&s[i..i + 16], true) {
+    for block in s[from..].chunks_exact(16) {
+        if any(block, |b| b == 0xA5) {
             return i;
         }
         i += 16;
@@ -37,14 +36,9 @@ fn next_a5(s: &[u8], from: usize) -> usize
     requires { from ≤ length s.now }
     ensures { SkippedPart s.now from result }
 {
-    let mut i = past_blocks(s, from);
-    while i < s.len() {
-        if s[i] == 0xA5 {
-            return i;
-        }
-        i += 1;
-    }
-    i
+    let i = past_blocks(s, from);
+    let rest = &s[i..];
+    i + rest.iter().position(|&b| b == 0xA5).unwrap_or(rest.len())
 }
 
 // From two A5 at `from` on, past as many blocks of 16 bytes as the run of A5 goes on for.
@@ -53,8 +47,8 @@ fn past_run_blocks(s: &[u8], from: usize) -> usize
     ensures { RunAt s.now from result }
 {
     let mut i = from;
-    while 18 <= s.len() - i {
-        if any_a5(&s[i + 2..i + 18], false) {
+    for block in s[from + 2..].chunks_exact(16) {
+        if any(block, |b| b != 0xA5) {
             return i;
         }
         i += 16;
@@ -67,23 +61,12 @@ fn past_run(s: &[u8], from: usize) -> usize
     requires { from ≤ length s.now }
     ensures { SkippedPart s.now from result }
 {
-    if s.len() - from < 2 {
+    let [0xA5, 0xA5, ..] = &s[from..] else {
         return from;
-    }
-    if s[from] != 0xA5 {
-        return from;
-    }
-    if s[from + 1] != 0xA5 {
-        return from;
-    }
-    let mut at = past_run_blocks(s, from);
-    while at + 2 < s.len() {
-        if s[at + 2] != 0xA5 {
-            return at;
-        }
-        at += 1;
-    }
-    at
+    };
+    let at = past_run_blocks(s, from);
+    let rest = &s[at + 2..];
+    at + rest.iter().position(|&b| b != 0xA5).unwrap_or(rest.len())
 }
 
 // The next place from `from` on that has to be looked at. What is handed on is a part of `s`, all of it: a caller then passes `s` in

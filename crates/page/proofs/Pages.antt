@@ -11,8 +11,7 @@ use Rattle.word.specs.Word.{number}
 use Rattle.word.proofs.Numbers.{word_back}
 use Rattle.page.specs.declared.setting.Setting.{Setting}
 use Rattle.page.specs.declared.setting.Setting.TheVariants.{Baud, Accelerometer, Gyroscope}
-use Rattle.page.specs.declared.setting.Stored.{Stored}
-use Rattle.page.specs.declared.setting.Stored.TheVariants.{Absent, Value}
+use Rattle.std.specs.Prelude.{Option, Some, None}
 use Rattle.page.specs.declared.setting.Values.{Values}
 use Rattle.page.specs.Settings.{code_of, some_of, usable_values, usable, storable_values, storable, readable, value_bytes, factory_value, Key, value_of, last_number, key_bytes, key_storable}
 use Rattle.page.specs.Page.{stored_in, with_key, is_storable, all_storable, items_of, page_size, writing, factory_page}
@@ -47,9 +46,9 @@ same_eq (x ∷ xs) (y ∷ ys) e =
 -- ---- what is computed of a writing, by which values are there
 
 -- A value as it is read back from its bytes.
-abbrev read_back_of : Key → Stored → Stored
-read_back_of k Absent = Absent
-read_back_of k (Value x) = Value (number (key_bytes k x))
+abbrev read_back_of : Key → Option ℕ → Option ℕ
+read_back_of k None = None
+read_back_of k (Some x) = Some (number (key_bytes k x))
 
 -- What the lookup gives of a setting.
 abbrev loaded : Values → Setting → ℕ
@@ -71,24 +70,24 @@ record Computed (v : Values) : Type 0 where
   pub accelerometer : Body v Accelerometer
   pub gyroscope : Body v Gyroscope
 
-computed : (b a g n : Stored) → Computed (record { baud = b; accelerometer = a; gyroscope = g; number = n })
+computed : (b a g n : Option ℕ) → Computed (record { baud = b; accelerometer = a; gyroscope = g; number = n })
 unfolding writing values_in held_under factory_page body_of entry_of entry_from part_of
-computed Absent Absent Absent Absent = record { size = refl; back = refl; baud = refl; accelerometer = refl; gyroscope = refl }
-computed Absent Absent Absent (Value n) = record { size = refl; back = refl; baud = refl; accelerometer = refl; gyroscope = refl }
-computed Absent Absent (Value g) Absent = record { size = refl; back = refl; baud = refl; accelerometer = refl; gyroscope = refl }
-computed Absent Absent (Value g) (Value n) = record { size = refl; back = refl; baud = refl; accelerometer = refl; gyroscope = refl }
-computed Absent (Value a) Absent Absent = record { size = refl; back = refl; baud = refl; accelerometer = refl; gyroscope = refl }
-computed Absent (Value a) Absent (Value n) = record { size = refl; back = refl; baud = refl; accelerometer = refl; gyroscope = refl }
-computed Absent (Value a) (Value g) Absent = record { size = refl; back = refl; baud = refl; accelerometer = refl; gyroscope = refl }
-computed Absent (Value a) (Value g) (Value n) = record { size = refl; back = refl; baud = refl; accelerometer = refl; gyroscope = refl }
-computed (Value b) Absent Absent Absent = record { size = refl; back = refl; baud = refl; accelerometer = refl; gyroscope = refl }
-computed (Value b) Absent Absent (Value n) = record { size = refl; back = refl; baud = refl; accelerometer = refl; gyroscope = refl }
-computed (Value b) Absent (Value g) Absent = record { size = refl; back = refl; baud = refl; accelerometer = refl; gyroscope = refl }
-computed (Value b) Absent (Value g) (Value n) = record { size = refl; back = refl; baud = refl; accelerometer = refl; gyroscope = refl }
-computed (Value b) (Value a) Absent Absent = record { size = refl; back = refl; baud = refl; accelerometer = refl; gyroscope = refl }
-computed (Value b) (Value a) Absent (Value n) = record { size = refl; back = refl; baud = refl; accelerometer = refl; gyroscope = refl }
-computed (Value b) (Value a) (Value g) Absent = record { size = refl; back = refl; baud = refl; accelerometer = refl; gyroscope = refl }
-computed (Value b) (Value a) (Value g) (Value n) = record { size = refl; back = refl; baud = refl; accelerometer = refl; gyroscope = refl }
+computed None None None None = record { size = refl; back = refl; baud = refl; accelerometer = refl; gyroscope = refl }
+computed None None None (Some n) = record { size = refl; back = refl; baud = refl; accelerometer = refl; gyroscope = refl }
+computed None None (Some g) None = record { size = refl; back = refl; baud = refl; accelerometer = refl; gyroscope = refl }
+computed None None (Some g) (Some n) = record { size = refl; back = refl; baud = refl; accelerometer = refl; gyroscope = refl }
+computed None (Some a) None None = record { size = refl; back = refl; baud = refl; accelerometer = refl; gyroscope = refl }
+computed None (Some a) None (Some n) = record { size = refl; back = refl; baud = refl; accelerometer = refl; gyroscope = refl }
+computed None (Some a) (Some g) None = record { size = refl; back = refl; baud = refl; accelerometer = refl; gyroscope = refl }
+computed None (Some a) (Some g) (Some n) = record { size = refl; back = refl; baud = refl; accelerometer = refl; gyroscope = refl }
+computed (Some b) None None None = record { size = refl; back = refl; baud = refl; accelerometer = refl; gyroscope = refl }
+computed (Some b) None None (Some n) = record { size = refl; back = refl; baud = refl; accelerometer = refl; gyroscope = refl }
+computed (Some b) None (Some g) None = record { size = refl; back = refl; baud = refl; accelerometer = refl; gyroscope = refl }
+computed (Some b) None (Some g) (Some n) = record { size = refl; back = refl; baud = refl; accelerometer = refl; gyroscope = refl }
+computed (Some b) (Some a) None None = record { size = refl; back = refl; baud = refl; accelerometer = refl; gyroscope = refl }
+computed (Some b) (Some a) None (Some n) = record { size = refl; back = refl; baud = refl; accelerometer = refl; gyroscope = refl }
+computed (Some b) (Some a) (Some g) None = record { size = refl; back = refl; baud = refl; accelerometer = refl; gyroscope = refl }
+computed (Some b) (Some a) (Some g) (Some n) = record { size = refl; back = refl; baud = refl; accelerometer = refl; gyroscope = refl }
 
 computed_of : (v : Values) → Computed v
 computed_of v = computed v.baud v.accelerometer v.gyroscope v.number
@@ -142,9 +141,9 @@ key_back last_number x e = word_back x (ltb-true x 4294967296 e)
 pub value_back : (s : Setting) (x : ℕ) → usable s x ≡ true → number (value_bytes s x) ≡ x
 value_back s x e = key_back (value_of s) x (usable-storable s x e)
 
-stored_back : (k : Key) (b : Stored) → is_storable k b ≡ true → read_back_of k b ≡ b
-stored_back k Absent e = refl
-stored_back k (Value x) e = ap Value (key_back k x e)
+stored_back : (k : Key) (b : Option ℕ) → is_storable k b ≡ true → read_back_of k b ≡ b
+stored_back k None e = refl
+stored_back k (Some x) e = ap Some (key_back k x e)
 
 -- ---- all values storable
 
@@ -182,23 +181,23 @@ read_back v e =
 pub codes_ascend : Theorems.CodesAscend
 codes_ascend v = go v.baud v.accelerometer v.gyroscope v.number
   where
-    go : (b a g n : Stored) → Theorems.ascending (items_of (record { baud = b; accelerometer = a; gyroscope = g; number = n })) ≡ true
-    go Absent Absent Absent Absent = refl
-    go Absent Absent Absent (Value n) = refl
-    go Absent Absent (Value g) Absent = refl
-    go Absent Absent (Value g) (Value n) = refl
-    go Absent (Value a) Absent Absent = refl
-    go Absent (Value a) Absent (Value n) = refl
-    go Absent (Value a) (Value g) Absent = refl
-    go Absent (Value a) (Value g) (Value n) = refl
-    go (Value b) Absent Absent Absent = refl
-    go (Value b) Absent Absent (Value n) = refl
-    go (Value b) Absent (Value g) Absent = refl
-    go (Value b) Absent (Value g) (Value n) = refl
-    go (Value b) (Value a) Absent Absent = refl
-    go (Value b) (Value a) Absent (Value n) = refl
-    go (Value b) (Value a) (Value g) Absent = refl
-    go (Value b) (Value a) (Value g) (Value n) = refl
+    go : (b a g n : Option ℕ) → Theorems.ascending (items_of (record { baud = b; accelerometer = a; gyroscope = g; number = n })) ≡ true
+    go None None None None = refl
+    go None None None (Some n) = refl
+    go None None (Some g) None = refl
+    go None None (Some g) (Some n) = refl
+    go None (Some a) None None = refl
+    go None (Some a) None (Some n) = refl
+    go None (Some a) (Some g) None = refl
+    go None (Some a) (Some g) (Some n) = refl
+    go (Some b) None None None = refl
+    go (Some b) None None (Some n) = refl
+    go (Some b) None (Some g) None = refl
+    go (Some b) None (Some g) (Some n) = refl
+    go (Some b) (Some a) None None = refl
+    go (Some b) (Some a) None (Some n) = refl
+    go (Some b) (Some a) (Some g) None = refl
+    go (Some b) (Some a) (Some g) (Some n) = refl
 
 -- ---- sound pages
 
@@ -269,9 +268,9 @@ stored_in_storable v Baud h = h.baud
 stored_in_storable v Accelerometer h = h.accelerometer
 stored_in_storable v Gyroscope h = h.gyroscope
 
-value_or_storable : (s : Setting) (b : Stored) → is_storable (value_of s) b ≡ true → storable s (value_or b (factory_value s)) ≡ true
-value_or_storable s Absent e = usable-storable s (factory_value s) (factory_usable s)
-value_or_storable s (Value x) e = e
+value_or_storable : (s : Setting) (b : Option ℕ) → is_storable (value_of s) b ≡ true → storable s (value_or b (factory_value s)) ≡ true
+value_or_storable s None e = usable-storable s (factory_value s) (factory_usable s)
+value_or_storable s (Some x) e = e
 
 pub looks_up_stored : Theorems.LooksUpStored
 looks_up_stored page s e =

@@ -5,13 +5,12 @@ use mathlib.Core.Path.{◌≡◌, refl, ◌∙◌}
 use mathlib.Core.Bool.{Bool, true, false, ◌&&◌, ◌||◌, not}
 use mathlib.Core.List.{List, [], ◌∷◌}
 use mathlib.Core.Logic.{inl, inr}
-use mathlib.Core.Option.{none, some}
+use Rattle.std.specs.Prelude.{Some, None}
 use types.Run.{OneOf}
 use lib.Dec.{eqb, leb}
 use borrow.Author.Tests.{eq-eqb, ne_eqb, eqb-true, eqb-false, le-leb, lt-leb, leb-true, leb-false}
 use Rattle.page.specs.declared.setting.Setting.{Setting}
 use Rattle.page.specs.declared.setting.Setting.TheVariants.{Baud, Accelerometer, Gyroscope}
-use Rattle.page.specs.declared.setting.Coded.TheVariants.{Setting as Known, Nothing}
 use Rattle.page.specs.Settings.{setting_of, some_of, baud_rates, accelerometer_ranges, gyroscope_ranges, older_gyroscope_ranges, usable_values, usable, storable_values, storable, readable, value_of, last_number, key_of}
 use Rattle.page.specs.Theorems.{NotOnThisBoard}
 
@@ -131,30 +130,30 @@ not_on_this_board_lem Gyroscope x = record { stored = two_more x; reported = ref
 -- ---- codes
 
 module _ (code : ℕ) where
-  pub code_baud : code ≡ 0x01 → Known Baud ≡ setting_of code
+  pub code_baud : code ≡ 0x01 → Some Baud ≡ setting_of code
   unfolding setting_of
   code_baud e = rw e
 
-  pub code_accelerometer : code ≡ 0x07 → Known Accelerometer ≡ setting_of code
+  pub code_accelerometer : code ≡ 0x07 → Some Accelerometer ≡ setting_of code
   unfolding setting_of
   code_accelerometer e = rw e
 
-  pub code_gyroscope : code ≡ 0x08 → Known Gyroscope ≡ setting_of code
+  pub code_gyroscope : code ≡ 0x08 → Some Gyroscope ≡ setting_of code
   unfolding setting_of
   code_gyroscope e = rw e
 
-  pub code_unknown : (code ≡ 0x01 → ⊥) → (code ≡ 0x07 → ⊥) → (code ≡ 0x08 → ⊥) → Nothing ≡ setting_of code
+  pub code_unknown : (code ≡ 0x01 → ⊥) → (code ≡ 0x07 → ⊥) → (code ≡ 0x08 → ⊥) → None ≡ setting_of code
   unfolding setting_of
   code_unknown n m k = rw (ne_eqb code 0x01 n, ne_eqb code 0x07 m, ne_eqb code 0x08 k)
 
-  pub key_setting : (s : Setting) → Known s ≡ setting_of code → some (value_of s) ≡ key_of code
+  pub key_setting : (s : Setting) → Some s ≡ setting_of code → Some (value_of s) ≡ key_of code
   unfolding key_of
   key_setting s e = rw (← e)
 
-  pub key_number : code ≡ 0x70 → some last_number ≡ key_of code
+  pub key_number : code ≡ 0x70 → Some last_number ≡ key_of code
   unfolding key_of setting_of
   key_number e = rw e
 
-  pub key_unknown : (code ≡ 0x01 → ⊥) → (code ≡ 0x07 → ⊥) → (code ≡ 0x08 → ⊥) → (code ≡ 0x70 → ⊥) → none ≡ key_of code
+  pub key_unknown : (code ≡ 0x01 → ⊥) → (code ≡ 0x07 → ⊥) → (code ≡ 0x08 → ⊥) → (code ≡ 0x70 → ⊥) → None ≡ key_of code
   unfolding key_of
   key_unknown n m k l = rw (← (code_unknown n m k), ne_eqb code 0x70 l)

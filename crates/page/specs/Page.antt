@@ -1,54 +1,52 @@
 -- Document 01, "The start-up page", with entry 70 of document 02, request 03: the values that a page keeps, and the writing of
 -- them.
-use Rattle.std.specs.Prelude.{Bool, true, false, ◌&&◌, List, [], ◌∷◌, ◌++◌, ℕ, ◌+◌, ◌-◌, ◌*◌, length, replicate}
+use Rattle.std.specs.Prelude.{Bool, true, false, ◌&&◌, List, [], ◌∷◌, ◌++◌, ℕ, ◌+◌, ◌-◌, ◌*◌, length, replicate, Option, Some, None}
 use Rattle.page.specs.declared.setting.Setting.{Setting}
 use Rattle.page.specs.declared.setting.Setting.TheVariants.{Baud, Accelerometer, Gyroscope}
-use Rattle.page.specs.declared.setting.Stored.{Stored}
-use Rattle.page.specs.declared.setting.Stored.TheVariants.{Absent, Value}
 use Rattle.page.specs.declared.setting.Values.{Values}
 use Rattle.page.specs.Settings.{factory_value, Key, value_of, last_number, key_code, key_bytes, key_storable}
 
 -- ---- values under codes
 
-abbrev pub is_there : Stored → Bool
-is_there Absent = false
-is_there (Value x) = true
+abbrev pub is_there : Option ℕ → Bool
+is_there None = false
+is_there (Some x) = true
 
-abbrev pub stored_in : Values → Setting → Stored
+abbrev pub stored_in : Values → Setting → Option ℕ
 stored_in v Baud = v.baud
 stored_in v Accelerometer = v.accelerometer
 stored_in v Gyroscope = v.gyroscope
 
 -- The values with one put in, the others kept.
 abbrev pub with_value : Values → Setting → ℕ → Values
-with_value v Baud x = record { baud = Value x; accelerometer = v.accelerometer; gyroscope = v.gyroscope; number = v.number }
-with_value v Accelerometer x = record { baud = v.baud; accelerometer = Value x; gyroscope = v.gyroscope; number = v.number }
-with_value v Gyroscope x = record { baud = v.baud; accelerometer = v.accelerometer; gyroscope = Value x; number = v.number }
+with_value v Baud x = record { baud = Some x; accelerometer = v.accelerometer; gyroscope = v.gyroscope; number = v.number }
+with_value v Accelerometer x = record { baud = v.baud; accelerometer = Some x; gyroscope = v.gyroscope; number = v.number }
+with_value v Gyroscope x = record { baud = v.baud; accelerometer = v.accelerometer; gyroscope = Some x; number = v.number }
 
 -- The values with a number put in, the others kept.
 abbrev pub with_number : Values → ℕ → Values
-with_number v x = record { baud = v.baud; accelerometer = v.accelerometer; gyroscope = v.gyroscope; number = Value x }
+with_number v x = record { baud = v.baud; accelerometer = v.accelerometer; gyroscope = v.gyroscope; number = Some x }
 
 abbrev pub with_key : Values → Key → ℕ → Values
 with_key v (value_of s) x = with_value v s x
 with_key v last_number x = with_number v x
 
 abbrev pub no_values : Values
-no_values = record { baud = Absent; accelerometer = Absent; gyroscope = Absent; number = Absent }
+no_values = record { baud = None; accelerometer = None; gyroscope = None; number = None }
 
 -- There is no factory number.
 abbrev pub factory_values : Values
 factory_values =
     record {
-      baud = Value (factory_value Baud);
-      accelerometer = Value (factory_value Accelerometer);
-      gyroscope = Value (factory_value Gyroscope);
-      number = Absent;
+      baud = Some (factory_value Baud);
+      accelerometer = Some (factory_value Accelerometer);
+      gyroscope = Some (factory_value Gyroscope);
+      number = None;
     }
 
-abbrev pub is_storable : Key → Stored → Bool
-is_storable k Absent = true
-is_storable k (Value x) = key_storable k x
+abbrev pub is_storable : Key → Option ℕ → Bool
+is_storable k None = true
+is_storable k (Some x) = key_storable k x
 
 -- Each value that is there is storable.
 unfoldable pub all_storable : Values → Bool
@@ -64,9 +62,9 @@ pub record Item : Type 0 where
   pub code : ℕ
   pub content : List ℕ
 
-abbrev pub item_on : Key → Stored → List Item → List Item
-item_on k Absent items = items
-item_on k (Value x) items = record { code = key_code k; content = key_bytes k x } ∷ items
+abbrev pub item_on : Key → Option ℕ → List Item → List Item
+item_on k None items = items
+item_on k (Some x) items = record { code = key_code k; content = key_bytes k x } ∷ items
 
 -- The entries of a page with their bodies: codes ascend.
 abbrev pub items_of : Values → List Item

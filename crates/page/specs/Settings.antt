@@ -1,12 +1,9 @@
 -- Document 01, "Handling one message", values: the settings, their codes, sizes, values and factory values; and document 02,
 -- requests 03 and 05: the number that the page keeps beside them, and the ranges of this board's gyroscope.
-use Rattle.std.specs.Prelude.{Bool, true, false, ◌&&◌, ◌||◌, not, List, [], ◌∷◌, ℕ, ◌%◌, eqb, ltb, length}
-use Rattle.std.proofs.Math.Option.{Option, none, some}
+use Rattle.std.specs.Prelude.{Bool, true, false, ◌&&◌, ◌||◌, not, List, [], ◌∷◌, ℕ, ◌%◌, eqb, ltb, length, Option, Some, None}
 use Rattle.word.specs.Word.{word_bytes}
 use Rattle.page.specs.declared.setting.Setting.{Setting}
 use Rattle.page.specs.declared.setting.Setting.TheVariants.{Baud, Accelerometer, Gyroscope}
-use Rattle.page.specs.declared.setting.Coded.{Coded}
-use Rattle.page.specs.declared.setting.Coded.TheVariants.{Setting as Known, Nothing}
 
 -- The low bytes of the commands 0x0201, 0x0207 and 0x0208.
 abbrev pub code_of : Setting → ℕ
@@ -14,13 +11,13 @@ code_of Baud = 0x01
 code_of Accelerometer = 0x07
 code_of Gyroscope = 0x08
 
-abbrev pub coded_on : Bool → Setting → Coded → Coded
-coded_on true s next = Known s
+abbrev pub coded_on : Bool → Setting → Option Setting → Option Setting
+coded_on true s next = Some s
 coded_on false s next = next
 
 -- The setting that a code stands for.
-unfoldable pub setting_of : ℕ → Coded
-setting_of code = coded_on (eqb code 0x01) Baud (coded_on (eqb code 0x07) Accelerometer (coded_on (eqb code 0x08) Gyroscope Nothing))
+unfoldable pub setting_of : ℕ → Option Setting
+setting_of code = coded_on (eqb code 0x01) Baud (coded_on (eqb code 0x07) Accelerometer (coded_on (eqb code 0x08) Gyroscope None))
 
 -- Does the test hold of some element?
 abbrev pub some_of : {A : Type 0} → (A → Bool) → List A → Bool
@@ -113,10 +110,10 @@ abbrev pub key_storable : Key → ℕ → Bool
 key_storable (value_of s) x = storable s x
 key_storable last_number x = ltb x 4294967296
 
-abbrev pub keyed_on : Coded → Bool → Option Key
-keyed_on (Known s) n = some (value_of s)
-keyed_on Nothing true = some last_number
-keyed_on Nothing false = none
+abbrev pub keyed_on : Option Setting → Bool → Option Key
+keyed_on (Some s) n = Some (value_of s)
+keyed_on None true = Some last_number
+keyed_on None false = None
 
 -- The key that a code stands for.
 unfoldable pub key_of : ℕ → Option Key

@@ -1,28 +1,32 @@
 -- Internal: how sound.rt tests a page that has entries: it walks over them in place. That the walk tells the sound pages is proved in
 -- proofs/Sounds.antt.
-use Rattle.std.specs.Prelude.{Bool, true, false, ◌&&◌, List, [], ◌∷◌, ℕ, zero, suc, ◌+◌, ◌*◌, eqb, leb, ltb, get_or, take, drop}
-use Rattle.std.proofs.Math.Option.{Option, none, some}
+use Rattle.std.specs.Prelude.{Bool, true, false, ◌&&◌, List, ℕ, zero, suc, ◌+◌, ◌*◌, eqb, leb, ltb, get_or, take, drop, Option, Some, None}
 use Rattle.std.proofs.Math.Seq.{slice}
+use Rattle.std.specs.List.{list_all}
 use Rattle.word.specs.Word.{number}
 use Rattle.page.specs.Settings.{storable, value_size, Key, value_of, last_number, key_of}
 use Rattle.page.specs.Lookup.{most_entries}
 
 -- Is each byte FF?
 abbrev pub all_blank : List ℕ → Bool
-all_blank [] = true
-all_blank (b ∷ bs) = eqb b 0xFF && all_blank bs
+all_blank bs = list_all (λ b. eqb b 0xFF) bs
 
 -- A size, or 0 where something is not right.
 abbrev pub size_on : Bool → ℕ → ℕ
 size_on true size = size
 size_on false size = 0
 
+-- A size, told where it is not 0.
+abbrev pub told_size : ℕ → Option ℕ
+told_size zero = None
+told_size (suc n) = Some (suc n)
+
 -- The size of the value that some bytes start with, or 0 where it is not storable; 0 for a code that stands for nothing. Any four
 -- bytes are a number.
 abbrev pub coded_size : Option Key → List ℕ → ℕ
-coded_size (some (value_of s)) bs = size_on (storable s (number (take (value_size s) bs))) (value_size s)
-coded_size (some last_number) bs = 4
-coded_size none bs = 0
+coded_size (Some (value_of s)) bs = size_on (storable s (number (take (value_size s) bs))) (value_size s)
+coded_size (Some last_number) bs = 4
+coded_size None bs = 0
 
 -- The size of the body at start under a code.
 unfoldable pub body_size : List ℕ → ℕ → ℕ → ℕ

@@ -1,7 +1,6 @@
 // The settings of the board that commands alter, and the values that the page keeps.
 ghost use Rattle.std.specs.Prelude.{◌≡◌, ◌&&◌, eqb, leb};
 ghost use Rattle.page.specs.Settings.{code_of, setting_of, some_of, baud_rates, usable, storable, readable, value_size, factory_value};
-ghost use Rattle.page.specs.Page.{with_value, with_number};
 
 #[derive(Clone, Copy)]
 pub enum Setting {
@@ -12,38 +11,25 @@ pub enum Setting {
     Gyroscope,
 }
 
-// What a code stands for.
-#[derive(Clone, Copy)]
-pub enum Coded {
-    Setting(Setting),
-    Nothing,
-}
-
-// A value on the page, if it has one.
-#[derive(Clone, Copy)]
-pub enum Stored {
-    Absent,
-    Value(u32),
-}
-
-// The values that a page keeps.
-#[derive(Clone, Copy)]
+// The values that a page keeps: each is there or not.
+#[derive(Clone, Copy, PartialEq, Eq)]
 pub struct Values {
-    pub baud: Stored,
-    pub accelerometer: Stored,
-    pub gyroscope: Stored,
+    pub baud: Option<u32>,
+    pub accelerometer: Option<u32>,
+    pub gyroscope: Option<u32>,
     // the last number accepted
-    pub number: Stored,
+    pub number: Option<u32>,
 }
 
-pub fn setting_of(code: u8) -> Coded
+// The setting that a code stands for.
+pub fn setting_of(code: u8) -> Option<Setting>
     ensures { result ≡ setting_of code }
 {
     match code {
-        0x01 => Coded::Setting(Setting::Baud),
-        0x07 => Coded::Setting(Setting::Accelerometer),
-        0x08 => Coded::Setting(Setting::Gyroscope),
-        _ => Coded::Nothing,
+        0x01 => Some(Setting::Baud),
+        0x07 => Some(Setting::Accelerometer),
+        0x08 => Some(Setting::Gyroscope),
+        _ => None,
     }
 }
 
@@ -119,51 +105,5 @@ pub fn factory_value(setting: Setting) -> u32
         Setting::Baud => 115200,
         Setting::Accelerometer => 0x02,
         Setting::Gyroscope => 0x03,
-    }
-}
-
-// The values with one put in, the others kept.
-pub(crate) fn with_value(values: Values, setting: Setting, value: u32) -> Values
-    ensures { result ≡ with_value values setting value }
-{
-    let baud = values.baud;
-    let accelerometer = values.accelerometer;
-    let gyroscope = values.gyroscope;
-    let number = values.number;
-    let stored = Stored::Value(value);
-    match setting {
-        Setting::Baud => Values {
-            baud: stored,
-            accelerometer,
-            gyroscope,
-            number,
-        },
-        Setting::Accelerometer => Values {
-            baud,
-            accelerometer: stored,
-            gyroscope,
-            number,
-        },
-        Setting::Gyroscope => Values {
-            baud,
-            accelerometer,
-            gyroscope: stored,
-            number,
-        },
-    }
-}
-
-// The values with a number put in, the others kept.
-pub(crate) fn with_number(values: Values, number: u32) -> Values
-    ensures { result ≡ with_number values number }
-{
-    let baud = values.baud;
-    let accelerometer = values.accelerometer;
-    let gyroscope = values.gyroscope;
-    Values {
-        baud,
-        accelerometer,
-        gyroscope,
-        number: Stored::Value(number),
     }
 }

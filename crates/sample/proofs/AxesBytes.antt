@@ -1,5 +1,5 @@
 -- Three axes and their twelve bytes: both ways.
-use Prim.Native.Nat.{ℕ, zero, suc, ◌+◌, ◌<◌}
+use Prim.Native.Nat.{ℕ, zero, suc, ◌+◌, ◌-◌, ◌<◌}
 use native.Mathlib.Omega.{arith}
 use mathlib.Core.Path.{◌≡◌, ap, ◌∙◌, sym}
 use mathlib.Core.List.{List, [], ◌∷◌, ◌++◌}
@@ -12,6 +12,18 @@ use Rattle.sample.specs.declared.axes.Axes.{Axes}
 use Rattle.sample.specs.Axes.{float_of, kept_of, bits_of, axes_from, axes_of, axes_bytes, restored}
 use Rattle.sample.specs.Theorems.{Kept32, Single}
 use Rattle.sample.proofs.Patterns.{bits_back, bits_below}
+
+-- ---- the axes of twelve bytes
+
+pub axes_read : (b : List ℕ) → length b ≡ 12 → (x y z : ℕ) → x ≡ number (take 4 b) → y ≡ number (take 4 (take (length b - 4) (drop 4 b)))
+    → z ≡ number (take 4 (take (length b - 8) (drop 8 b))) → (a : Axes) → a ≡ axes_from x y z → a ≡ axes_of b
+unfolding axes_of
+axes_read b e x y z ex ey ez a h =
+    let ay : take (length b - 4) (drop 4 b) ≡ drop 4 b = take_all (length b - 4) (drop 4 b) (rw length-drop (omega arith)) in
+    let az : take (length b - 8) (drop 8 b) ≡ drop 8 b = take_all (length b - 8) (drop 8 b) (rw length-drop (omega arith)) in
+    let by : y ≡ number (take 4 (drop 4 b)) = ey ∙ ap (λ (l : List ℕ). number (take 4 l)) ay in
+    let bz : z ≡ number (take 4 (drop 8 b)) = ez ∙ ap (λ (l : List ℕ). number (take 4 l)) az in
+    h ∙ rw (← ex, ← by, ← bz)
 
 -- ---- from axes
 

@@ -3,5 +3,4 @@ pub mod Parts
 pub mod Patterns
 pub mod Places
 pub mod RoundTrips
-pub mod Stores
 pub mod Walks

@@ -1,29 +1,20 @@
 -- Floats by their bit patterns: the code's tests, case by case, and both round trips of an axis.
-use Prim.Native.Nat.{ℕ, ◌*◌, ◌%◌, ◌<◌}
+use Prim.Native.Nat.{ℕ, ◌%◌, ◌<◌}
 use native.Mathlib.Omega.{arith}
 use mathlib.Core.Path.{◌≡◌, refl, sym, ap, ◌∙◌, subst}
 use mathlib.Core.Bool.{Bool, true, false, not}
 use lib.Dec.{T, ltb}
-use lib.Ieee.{Float, nan, inf, fin, up, down, binary32, of_bits, to_bits, nan_bits, is_nan, ne, div, fits}
+use lib.Ieee.{Float, nan, inf, fin, binary32, of_bits, to_bits, nan_bits, is_nan, fits}
 use lib.Ieee.Bits.{nan_bits_above, nan_bits_is, to_bits-of_bits, of_bits-to_bits, to_bits-lt}
-use borrow.Author.Tests.{eq-eqb}
 use Rattle.sample.specs.Axes.{float_of, kept_of, bits_of}
 use Rattle.sample.specs.Theorems.{BitsBack, AxisBack, AxesBack}
 
--- ---- the code's tests
+-- ---- the code's test of a pattern
 
--- of a pattern
 pub nan_test : (bits : ℕ) → ltb 2139095040 (bits % 2147483648) ≡ nan_bits binary32 bits
 nan_test bits = sym (nan_bits_above binary32 bits)
 
--- of a float: only a NaN differs from itself
-ne_self : (x : Float) → ne x x ≡ is_nan x
-unfolding ne is_nan
-ne_self nan = refl
-ne_self (inf true) = refl
-ne_self (inf false) = refl
-ne_self (fin true m e) = rw (eq-eqb (m * up e * down e) _ refl)
-ne_self (fin false m e) = rw (eq-eqb (m * up e * down e) _ refl)
+-- ---- what the code makes
 
 only_nan : (x : Float) → is_nan x ≡ true → x ≡ nan
 unfolding is_nan
@@ -34,42 +25,13 @@ only_nan (fin s m e) h = absurd (subst T (sym h) tt)
 holds_not : {b : Bool} → b ≡ false → T (not b)
 holds_not h = subst (λ (b : Bool). T (not b)) (sym h) tt
 
-pub no_nan : (x : Float) → ne x x ≡ false → T (not (is_nan x))
-no_nan x h = holds_not (sym (ne_self x) ∙ h)
-
--- ---- what the code makes
-
-zero_over_zero : div binary32 (of_bits binary32 0) (of_bits binary32 0) ≡ nan
-unfolding div of_bits
-zero_over_zero = refl
+made : of_bits binary32 0x7FC00000 ≡ nan
+unfolding of_bits
+made = refl
 
 -- t is what the test of the pattern gave.
-module _ (bits : ℕ) (t : Bool) (told : t ≡ nan_bits binary32 bits) where
-  pub no_nan_pattern : t ≡ false → T (not (nan_bits binary32 bits))
-  no_nan_pattern e = holds_not (sym told ∙ e)
-
-  pub float_nan : t ≡ true → div binary32 (of_bits binary32 0) (of_bits binary32 0) ≡ float_of bits
-  float_nan e = zero_over_zero ∙ sym (only_nan (of_bits binary32 bits) (sym (nan_bits_is binary32 bits) ∙ sym told ∙ e))
-
-  pub kept_nan : t ≡ true → bits ≡ kept_of bits
-  unfolding kept_of
-  kept_nan e = rw (sym told ∙ e)
-
-  pub kept-number : t ≡ false → 0 ≡ kept_of bits
-  unfolding kept_of
-  kept-number e = rw (sym told ∙ e)
-
-  pub bits_nan : (x : Float) → ne x x ≡ true → t ≡ true → bits ≡ bits_of x bits
-  unfolding bits_of
-  bits_nan x n e = rw (sym (ne_self x) ∙ n, sym told ∙ e)
-
-  pub bits_some_nan : (x : Float) → ne x x ≡ true → t ≡ false → 0x7FC00000 ≡ bits_of x bits
-  unfolding bits_of
-  bits_some_nan x n e = rw (sym (ne_self x) ∙ n, sym told ∙ e)
-
-pub bits_number : (x : Float) (kept : ℕ) → ne x x ≡ false → to_bits binary32 x ≡ bits_of x kept
-unfolding bits_of
-bits_number x kept e = rw (sym (ne_self x) ∙ e)
+pub float_nan : (bits : ℕ) (t : Bool) → t ≡ nan_bits binary32 bits → t ≡ true → of_bits binary32 0x7FC00000 ≡ float_of bits
+float_nan bits t told e = made ∙ sym (only_nan (of_bits binary32 bits) (sym (nan_bits_is binary32 bits) ∙ sym told ∙ e))
 
 -- ---- round trips
 

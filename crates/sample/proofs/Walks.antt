@@ -1,15 +1,14 @@
 -- The walk over the fields of a payload p, by places of p.
-use Prim.Native.Nat.{ℕ, zero, suc, ◌+◌, ◌-◌, ◌≤◌, ◌<◌}
+use Prim.Native.Nat.{ℕ, zero, suc, ◌+◌, ◌≤◌, ◌<◌}
 use native.Mathlib.Omega.{arith}
 use native.Mathlib.Decide.{dec_le}
 use mathlib.Core.Path.{◌≡◌, refl, ap, ◌∙◌}
-use mathlib.Core.Bool.{Bool, true, false, ◌&&◌, ◌||◌, not}
+use mathlib.Core.Bool.{Bool, true, false, ◌||◌}
 use mathlib.Core.List.{List, [], ◌∷◌}
 use mathlib.Core.Option.{Option, none, some}
-use lib.Dec.{eqb}
-use lib.ListN.{length, get_or, take, drop, length-drop, drop_of_length-le, get_or-eq_default}
-use lib.Seq.{drop-cons, drop-drop, length-take-le}
-use borrow.Author.Tests.{eq-eqb, ne_eqb, eqb-true, not-false}
+use lib.ListN.{length, get_or, drop, length-drop, drop_of_length-le}
+use lib.Seq.{drop-cons, drop-drop}
+use borrow.Author.Tests.{eq-eqb, ne_eqb}
 use Rattle.message.specs.Fields.{Field, cons_field, fields_past, fields_of}
 use Rattle.sample.specs.declared.axes.Axes.{Axes}
 use Rattle.sample.specs.declared.reader.Sample.TheVariants.{Acceleration, Rate, Unknown}
@@ -31,9 +30,6 @@ past_over (suc n) (b ∷ bs) h = past_over n bs (omega arith)
 
 module _ (p : List ℕ) (at : ℕ) where
   -- ---- the first field from `at` on
-
-  pub end_none : length p < at + 2 → at + 2 ≡ at + 2 + get_or p (at + 1) 0
-  end_none h = let l : length p ≤ at + 1 = omega arith in let e : get_or p (at + 1) 0 ≡ 0 = get_or-eq_default p 0 l in omega arith
 
   two : at + 2 ≤ length p → drop at p ≡ get_or p at 0 ∷ get_or p (at + 1) 0 ∷ drop (at + 2) p
   two h =
@@ -65,30 +61,6 @@ module _ (p : List ℕ) (at : ℕ) where
 
   pub no_field : length p ≤ at → fields_past 0 (drop at p) ≡ some []
   no_field h = rw (drop_of_length-le p h)
-
-  -- ---- the size of the field at `at`
-
-  -- b is whether its code is one with axes.
-  pub wrong_size : (b : Bool) → b ≡ (eqb (get_or p at 0) 0x81 || eqb (get_or p at 0) 0x82) → b && not (eqb (get_or p (at + 1) 0) 12) ≡ size_wrong (field_at p at)
-  wrong_size b e = rw e
-
-  -- ---- its data
-
-  -- the code's part, from its start to the end e
-  pub data_part : (e : ℕ) → e ≡ at + 2 + get_or p (at + 1) 0 → take (e - (at + 2)) (drop (at + 2) p) ≡ take (get_or p (at + 1) 0) (drop (at + 2) p)
-  data_part e h = let k : e - (at + 2) ≡ get_or p (at + 1) 0 = omega arith in rw k
-
-  twelve : There p at → get_or p (at + 1) 0 ≡ 12 → (d : List ℕ) → d ≡ (field_at p at).content → length d ≡ 12
-  twelve t e d h = let k : 12 ≤ length (drop (at + 2) p) = rw length-drop (omega (arith, t.whole)) in rw (h, e) (length-take-le 12 (drop (at + 2) p) k)
-
-  size_is : There p at → eqb (get_or p at 0) 0x81 || eqb (get_or p at 0) 0x82 ≡ true → get_or p (at + 1) 0 ≡ 12
-  size_is t e = eqb-true (get_or p (at + 1) 0) 12 (not-false (eqb (get_or p (at + 1) 0) 12) (rw e at t.sized))
-
-  pub twelve_81 : There p at → get_or p at 0 ≡ 0x81 → (d : List ℕ) → d ≡ (field_at p at).content → length d ≡ 12
-  twelve_81 t h = twelve t (size_is t (rw (eq-eqb (get_or p at 0) 0x81 h)))
-
-  pub twelve_82 : There p at → (get_or p at 0 ≡ 0x81 → ⊥) → get_or p at 0 ≡ 0x82 → (d : List ℕ) → d ≡ (field_at p at).content → length d ≡ 12
-  twelve_82 t n h = twelve t (size_is t (rw (ne_eqb (get_or p at 0) 0x81 n, eq-eqb (get_or p at 0) 0x82 h)))
 
   -- ---- what it is
 
@@ -123,12 +95,6 @@ module _ (p : List ℕ) (at : ℕ) where
         step true v (some gs) q = refl
         step false v (some gs) q = rw q
 
-    pub tested_wrong : length p ≤ at → wrong ≡ true → 25 ≡ t
-    tested_wrong h e = rw (no_field h, e) at goes
-
-    pub tested_right : length p ≤ at → wrong ≡ false → 0 ≡ t
-    tested_right h e = rw (no_field h, e) at goes
-
 -- ---- the walk for field k
 
 pub walk_starts : (p : List ℕ) (k : ℕ) → tested_from false (fields_of p) ≡ 0 → Walked p k 0 k
@@ -161,28 +127,25 @@ module _ (p : List ℕ) (k at left : ℕ) (w : Walked p k at left) where
     pub walk_there : There p at
     walk_there = record { whole = walk_whole; sized = rest_tested.0 }
 
-    pub walk_steps : (left ≡ 0 → ⊥) → (e : ℕ) → e ≡ at + 2 + get_or p (at + 1) 0 → Walked p k e (left - 1)
-    walk_steps n e ee =
+    pub walk_steps : (e : ℕ) → e ≡ at + 2 + get_or p (at + 1) 0 → (l : ℕ) → left ≡ suc l → Walked p k e l
+    walk_steps e ee l s =
         let f = first_field p at walk_whole in
         rw ee (record {
           inside = walk_whole;
           tested = rest_tested.1;
-          found = step left n (fields_past 0 (drop end p)) ∙ (rw f at w.found);
+          found = step (fields_past 0 (drop end p)) ∙ (rw (f, s) at w.found);
         })
       where
         places : (i j : ℕ) → i + 2 + j + 4 ≡ i + 4 + (2 + j)
         places i j = omega arith
 
-        step : (l : ℕ) → (l ≡ 0 → ⊥) → (rest : Option (List Field)) → found_from (end + 4) rest (l - 1) ≡ found_from (at + 4) (cons_field (field_at p at) rest) l
-        step zero z rest = absurd (z refl)
-        step (suc l) z none = refl
-        step (suc l) z (some gs) = let s : suc l - 1 ≡ l = omega arith in rw (s, places at (get_or p (at + 1) 0))
+        step : (rest : Option (List Field)) → found_from (end + 4) rest l ≡ found_from (at + 4) (cons_field (field_at p at) rest) (suc l)
+        step none = refl
+        step (some gs) = rw (places at (get_or p (at + 1) 0))
 
-  pub walk_ends : length p ≤ at → Walked p k at 0
-  walk_ends h = let f = no_field p at h in record { inside = w.inside; tested = w.tested; found = rw f (rw f at w.found) }
-
-  pub walk_reaches : left ≡ 0 → Walked p k at 0
-  walk_reaches e = rw (← e) w
+  -- none is left, and field k is none of them
+  pub walk_ends : at ≡ length p → Walked p k (length p) 0
+  walk_ends e = let f = no_field p at (omega arith) in rw (← e) (record { inside = w.inside; tested = w.tested; found = rw f (rw f at w.found) })
 
   -- ---- field k itself
 

@@ -1,6 +1,8 @@
 -- Document 01, "Data messages" and numbers 21 to 25 and 27: the data reader.
-use Rattle.std.specs.Prelude.{ℕ, zero, suc, ◌+◌, Bool, true, false, ◌&&◌, ◌||◌, not, List, [], ◌∷◌, eqb}
+use Rattle.std.specs.Prelude.{ℕ, zero, suc, ◌+◌, Bool, true, false, ◌&&◌, ◌||◌, not, List, [], ◌∷◌, eqb, Result, Ok, Err}
 use Rattle.std.proofs.Math.Option.{Option, none, some}
+use Rattle.refusal.specs.declared.Refusal.{Refusal}
+use Rattle.refusal.specs.Refusal.{refusal_number}
 use Rattle.message.specs.Message.{type_of, payload_of}
 use Rattle.message.specs.Whole.{whole_number}
 use Rattle.message.specs.Fields.{Field, fields_of}
@@ -78,13 +80,25 @@ whole_on (suc n) m k = record { number = suc n; found = none }
 unfoldable pub reading_of : List ℕ → ℕ → Reading
 reading_of m k = whole_on (whole_number m) m k
 
+-- What the reader answers, with document 01's number: what the field is, and where its data stands in the message.
+pub record FieldAnswer : Type 0 where
+  pub number : ℕ
+  pub field : Sample
+  pub place : ℕ
+  pub size : ℕ
+
 -- What the field is, and where its data stands in the message, whatever it is. A refusal gives zeros.
-abbrev pub read_on : Option Found → ℕ → FieldRead
+abbrev pub read_on : Option Found → ℕ → FieldAnswer
 read_on none n = record { number = n; field = Unknown 0 0; place = 0; size = 0 }
 read_on (some f) n = record { number = n; field = sample_of f.field f.place; place = f.place; size = f.field.size }
 
-unfoldable pub field_read : List ℕ → ℕ → FieldRead
+unfoldable pub field_read : List ℕ → ℕ → FieldAnswer
 field_read m k = read_on (reading_of m k).found (reading_of m k).number
+
+-- The paper's number and values of an answer: 0 and the field, or the refusal's number and zeros.
+abbrev pub answer_of : Result FieldRead Refusal → FieldAnswer
+answer_of (Ok f) = record { number = 0; field = f.field; place = f.place; size = f.size }
+answer_of (Err r) = record { number = refusal_number r; field = Unknown 0 0; place = 0; size = 0 }
 
 abbrev pub data_found : Option Found → List ℕ
 data_found none = []

@@ -1,15 +1,14 @@
 // Three axes carried bit for bit.
-ghost use Rattle.std.specs.Prelude.{◌≡◌, ◌+◌, ◌≤◌, length};
+ghost use Rattle.std.specs.Prelude.{◌≡◌, length};
 ghost use Rattle.std.specs.Float.{binary32};
 ghost use Rattle.std.specs.Float.Ieee.{nan_bits};
-ghost use Rattle.std.proofs.lemmas.List.Edits.{sets};
-ghost use Rattle.word.specs.Word.{word_bytes};
 ghost use Rattle.sample.specs.Axes.{float_of, kept_of, bits_of, axes_from, axes_of, axes_bytes};
 
 use word::number_of;
 
 // Three IEEE 754 single floats. The kit's f32 has a single NaN, so the pattern of an axis that is a NaN stands beside it;
 // beside any other it is 0.
+// Kept: document 01 and specs/Axes.antt name these fields, a struct of three floats.
 #[derive(Clone, Copy)]
 pub struct Axes {
     pub x: f32,
@@ -21,6 +20,7 @@ pub struct Axes {
 }
 
 // Whether a pattern is a NaN's: its sign aside, above that of infinity.
+#[tactic(auto, using(crate::proofs::Patterns::nan_test))]
 fn is_nan(bits: u32) -> bool
     ensures { result ≡ nan_bits binary32 bits }
 {
@@ -28,18 +28,19 @@ fn is_nan(bits: u32) -> bool
 }
 
 // The float of a pattern. The kit makes no float of a NaN's pattern: a NaN is made anew.
+#[tactic(auto, using(crate::proofs::Patterns::float_nan))]
 fn float_of(bits: u32) -> f32
     ensures { result ≡ float_of bits }
 {
     if is_nan(bits) {
-        let zero = 0.0f32;
-        zero / zero
+        f32::NAN
     } else {
         f32::from_bits(bits)
     }
 }
 
 // What stands beside the float of a pattern.
+#[tactic(auto, unfolding(crate::specs::Axes::kept_of))]
 fn kept_of(bits: u32) -> u32
     ensures { result ≡ kept_of bits }
 {
@@ -48,10 +49,11 @@ fn kept_of(bits: u32) -> u32
 
 // The pattern of a float and of what stands beside it. Beside a NaN a caller may have put what is no NaN's pattern: it stays
 // a NaN all the same.
+#[tactic(auto, unfolding(crate::specs::Axes::bits_of))]
 pub fn bits_of(x: f32, kept: u32) -> u32
     ensures { result ≡ bits_of x kept }
 {
-    if x != x {
+    if x.is_nan() {
         if is_nan(kept) { kept } else { 0x7fc0_0000 }
     } else {
         f32::to_bits(x)
@@ -73,6 +75,7 @@ pub fn axes_from_bits(x: u32, y: u32, z: u32) -> Axes
 }
 
 // The axes of twelve bytes.
+#[tactic(auto, using(crate::proofs::AxesBytes::axes_read), unfolding(crate::specs::Axes::axes_of))]
 pub(crate) fn axes_of(b: &[u8]) -> Axes
     requires { length b.now ≡ 12 }
     ensures { result ≡ axes_of b.now }
@@ -83,23 +86,13 @@ pub(crate) fn axes_of(b: &[u8]) -> Axes
     axes_from_bits(x, y, z)
 }
 
-// Writes a number as four bytes from `at`, the highest first.
-fn put_word(w: u32, at: usize, room: &mut [u8])
-    requires { at + 4 ≤ length room.old }
-    ensures { room.new ≡ sets room.old at (word_bytes w) }
+// Writes the axes as twelve bytes, of each the highest first.
+#[tactic(auto, unfolding(crate::specs::Axes::axes_bytes))]
+pub(crate) fn put_axes(a: Axes, room: &mut [u8])
+    requires { length room.old ≡ 12 }
+    ensures { room.new ≡ axes_bytes a }
 {
-    room[at] = (w / 16777216 % 256) as u8;
-    room[at + 1] = (w / 65536 % 256) as u8;
-    room[at + 2] = (w / 256 % 256) as u8;
-    room[at + 3] = (w % 256) as u8;
-}
-
-// Writes the axes as twelve bytes from `at`.
-pub(crate) fn put_axes(a: Axes, at: usize, room: &mut [u8])
-    requires { at + 12 ≤ length room.old }
-    ensures { room.new ≡ sets room.old at (axes_bytes a) }
-{
-    put_word(bits_of(a.x, a.x_nan), at, room);
-    put_word(bits_of(a.y, a.y_nan), at + 4, room);
-    put_word(bits_of(a.z, a.z_nan), at + 8, room);
+    room[..4].copy_from_slice(&bits_of(a.x, a.x_nan).to_be_bytes());
+    room[4..8].copy_from_slice(&bits_of(a.y, a.y_nan).to_be_bytes());
+    room[8..].copy_from_slice(&bits_of(a.z, a.z_nan).to_be_bytes());
 }

@@ -1,14 +1,16 @@
 // The data reader.
 ghost use Rattle.std.specs.Prelude.{◌≡◌, false, ◌||◌, ◌+◌, ◌≤◌, ◌<◌, eqb, length, get_or};
 ghost use Rattle.std.proofs.Math.Option.{some};
+ghost use Rattle.refusal.specs.Refusal.{number_of};
 ghost use Rattle.message.specs.Message.{payload_of};
 ghost use Rattle.message.specs.Whole.{whole_number};
 ghost use Rattle.message.specs.Fields.{fields_of};
-ghost use Rattle.sample.specs.Reader.{size_wrong, sample_of, read_on, field_read, field_data};
-ghost use Rattle.sample.specs.Walk.{field_at, There, tested_from, Walked, Placed};
+ghost use Rattle.sample.specs.Reader.{answer_of, size_wrong, sample_of, read_on, field_read, field_data};
+ghost use Rattle.sample.specs.Walk.{field_at, There, tested_from, Started, Placed};
 
 use crate::axes::{Axes, axes_of};
 use message::check_message;
+use refusal::Refusal;
 
 // What a field of a data message is.
 #[derive(Clone, Copy)]
@@ -21,37 +23,21 @@ pub enum Sample {
     Unknown(u8, usize),
 }
 
-// What the data reader answers. Where it refuses, the field is an unknown one of zeros, and place and size are 0.
+// What the data reader answers.
 #[derive(Clone, Copy)]
 pub struct FieldRead {
-    // document 01's number
-    pub number: u8,
     pub field: Sample,
     // the place in the message of the field's first data byte, and how many there are, whatever the field is
     pub place: usize,
     pub size: usize,
 }
 
-// Where a field of a message starts in its payload, or the number that refuses it.
-#[derive(Clone, Copy)]
-enum Place {
-    At(usize),
-    Refused(u8),
-}
-
 // Field k of a message, counted from 0.
-pub fn read_field(message: &[u8], k: usize) -> FieldRead
-    ensures { result ≡ field_read message.now k }
+pub fn read_field(message: &[u8], k: usize) -> Result<FieldRead, Refusal>
+    ensures { answer_of result ≡ field_read message.now k }
 {
-    match find(message, k) {
-        Place::At(at) => read_at(payload_of(message), at),
-        Place::Refused(number) => FieldRead {
-            number: number,
-            field: Sample::Unknown(0, 0),
-            place: 0,
-            size: 0,
-        },
-    }
+    let at = find(message, k)?;
+    Ok(read_at(payload_of(message), at))
 }
 
 // The data bytes of field k as that part of the message; an empty part where it is refused.
@@ -59,32 +45,23 @@ pub fn field_data(message: &[u8], k: usize) -> &[u8]
     ensures { result.now ≡ field_data message.now k }
 {
     match find(message, k) {
-        Place::At(at) => data_at(payload_of(message), at),
-        Place::Refused(_) => &message[..0],
+        Ok(at) => data_at(payload_of(message), at),
+        Err(_) => &message[..0],
     }
 }
 
-// Where field k of a message is. Every field is tested before field k is looked for, so the payload is walked twice.
-fn find(message: &[u8], k: usize) -> Place
+// Where field k of a message starts in its payload. Every field is tested before field k is looked for, so the payload is walked
+// twice.
+fn find(message: &[u8], k: usize) -> Result<usize, Refusal>
     ensures { Placed message.now k result }
 {
-    let whole = check_message(message);
-    if whole != 0 {
-        return Place::Refused(whole);
-    }
+    check_message(message)?;
     if message[2] != 0xA2 {
-        return Place::Refused(23);
+        return Err(Refusal::Kind);
     }
     let payload = payload_of(message);
-    let tested = test_fields(payload);
-    if tested != 0 {
-        return Place::Refused(tested);
-    }
-    let at = field_start(payload, k);
-    if at == payload.len() {
-        return Place::Refused(27);
-    }
-    Place::At(at)
+    test_fields(payload)?;
+    field_start(payload, k).ok_or(Refusal::NoField)
 }
 
 // The payload of a whole message: what stands between its four first bytes and its sums.
@@ -96,39 +73,42 @@ fn payload_of(message: &[u8]) -> &[u8]
     &message[4..end]
 }
 
-// 0 where fields fill the payload and have right sizes; else 24 or 25. A wrong size is only remembered: a later field that
-// does not fit comes before it.
-fn test_fields(payload: &[u8]) -> u8
-    ensures { result ≡ tested_from false (fields_of payload.now) }
+// Whether fields fill the payload and have right sizes. A wrong size is only remembered: a later field that does not fit comes
+// before it.
+// Kept: each field tells where the next one starts, so that no range steps from one to the next.
+fn test_fields(payload: &[u8]) -> Result<(), Refusal>
+    ensures { number_of result ≡ tested_from false (fields_of payload.now) }
 {
     let mut at = 0;
     let mut wrong = false;
     while at < payload.len() {
         let end = field_end(payload, at);
         if payload.len() < end {
-            return 24;
+            return Err(Refusal::Fields);
         }
-        wrong = wrong | size_wrong(payload, at);
+        wrong |= size_wrong(payload, at);
         at = end;
     }
-    if wrong { 25 } else { 0 }
+    if wrong {
+        Err(Refusal::FieldSize)
+    } else {
+        Ok(())
+    }
 }
 
-// Where field k of a tested payload starts: at the payload's end where there is none.
-fn field_start(payload: &[u8], k: usize) -> usize
+// Where field k of a tested payload starts.
+fn field_start(payload: &[u8], k: usize) -> Option<usize>
     requires { tested_from false (fields_of payload.now) ≡ 0 }
-    ensures { Walked payload.now k result 0 }
+    ensures { Started payload.now k result }
 {
     let mut at = 0;
-    let mut left = k;
-    while at < payload.len() {
-        if left == 0 {
-            return at;
+    for _ in 0..k {
+        if at == payload.len() {
+            return None;
         }
         at = field_end(payload, at);
-        left -= 1;
     }
-    at
+    if at == payload.len() { None } else { Some(at) }
 }
 
 // Where the field at `at` ends: past the payload's end where it is not whole, also where it has no size.
@@ -140,14 +120,14 @@ fn field_end(payload: &[u8], at: usize) -> usize
     if payload.len() < start {
         return start;
     }
-    start + payload[at + 1] as usize
+    start + usize::from(payload[at + 1])
 }
 
 // Whether a field of this code has axes as its data.
 fn has_axes(code: u8) -> bool
     ensures { result ≡ (eqb code 0x81 || eqb code 0x82) }
 {
-    (code == 0x81) | (code == 0x82)
+    matches!(code, 0x81 | 0x82)
 }
 
 // Whether the field at `at` has axes as its data and its size is not 12.
@@ -155,19 +135,18 @@ fn size_wrong(payload: &[u8], at: usize) -> bool
     requires { at + 2 ≤ length payload.now }
     ensures { result ≡ size_wrong (field_at payload.now at) }
 {
-    has_axes(payload[at]) & (payload[at + 1] != 12)
+    has_axes(payload[at]) && payload[at + 1] != 12
 }
 
 // What is answered of the field at `at`. Its data starts behind the message's four first bytes, and behind its own code and size.
 fn read_at(payload: &[u8], at: usize) -> FieldRead
     requires { There payload.now at }
-    ensures { result ≡ read_on (some (record { field = field_at payload.now at; place = at + 6 })) 0 }
+    ensures { answer_of (Ok result) ≡ read_on (some (record { field = field_at payload.now at; place = at + 6 })) 0 }
 {
     FieldRead {
-        number: 0,
         field: sample_at(payload, at),
         place: at + 6,
-        size: payload[at + 1] as usize,
+        size: usize::from(payload[at + 1]),
     }
 }
 
@@ -176,14 +155,11 @@ fn sample_at(payload: &[u8], at: usize) -> Sample
     requires { There payload.now at }
     ensures { result ≡ sample_of (field_at payload.now at) (at + 6) }
 {
-    let code = payload[at];
-    if code == 0x81 {
-        return Sample::Acceleration(axes_of(data_at(payload, at)));
+    match payload[at] {
+        0x81 => Sample::Acceleration(axes_of(data_at(payload, at))),
+        0x82 => Sample::Rate(axes_of(data_at(payload, at))),
+        code => Sample::Unknown(code, at + 6),
     }
-    if code == 0x82 {
-        return Sample::Rate(axes_of(data_at(payload, at)));
-    }
-    Sample::Unknown(code, at + 6)
 }
 
 // The data bytes of the field at `at`.

@@ -2,7 +2,7 @@
 #![tactic(auto)]
 
 // What stands at the front of the unread bytes.
-#[derive(Clone, Copy)]
+#[derive(Clone, Copy, PartialEq, Eq)]
 pub enum Verdict {
     // One byte is skipped.
     Skip,
@@ -13,7 +13,7 @@ pub enum Verdict {
 }
 
 // Where a seek through the unread bytes ends.
-#[derive(Clone, Copy)]
+#[derive(Clone, Copy, PartialEq, Eq)]
 pub enum Sought {
     // No message: so many bytes are skipped, and what follows them is undecided or nothing.
     Starved(usize),

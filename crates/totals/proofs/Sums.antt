@@ -4,20 +4,12 @@ use native.Mathlib.Omega.{arith}
 use native.Mathlib.Decide.{dec_lt}
 use mathlib.Core.Path.{◌≡◌, refl, ◌∙◌, ap}
 use mathlib.Core.List.{List, [], ◌∷◌}
+use mathlib.Core.Logic.{◌⊎◌, inl, inr}
 use lib.ListN.{length, get_or, set, drop, length-set, length-drop}
 use lib.Seq.{set_out}
 use Rattle.totals.specs.declared.Tally.{Tally}
 use Rattle.totals.specs.Tally.{plus_up_to, good_bytes, errors_after, unless_refused, counted_with, row_of, tally_in}
 use Rattle.totals.specs.Row.{plus_at}
-
-module _ (total n : ℕ) where
-  pub sum_fits : n ≤ 18446744073709551615 - total → total < 18446744073709551616 → total + n ≡ plus_up_to total n
-  unfolding plus_up_to
-  sum_fits h l = omega arith
-
-  pub sum_stops : 18446744073709551615 - total < n → 18446744073709551615 ≡ plus_up_to total n
-  unfolding plus_up_to
-  sum_stops h = omega arith
 
 pub sum_twice : (total m n : ℕ) → plus_up_to (plus_up_to total m) n ≡ plus_up_to total (m + n)
 unfolding plus_up_to
@@ -95,6 +87,11 @@ module _ (t : Tally) (number taken skipped good error : ℕ) where
         go zero l n = absurd (n refl)
         go (suc zero) l n = refl
         go (suc (suc k)) l n = absurd (omega arith)
+
+    pub counted_no_error : length t.errors ≡ 8 → (number ≡ 0 × (8 ≤ error)) ⊎ (number ≡ 0 → ⊥)
+        → record { taken = x; skipped = y; good = g; errors = t.errors } ≡ counted_with t number taken skipped good error
+    counted_no_error eight (inl (z, l)) = counted_above eight z l
+    counted_no_error eight (inr n) = counted_other n
 
 -- ---- totals in a row
 

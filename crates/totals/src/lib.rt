@@ -1,12 +1,12 @@
 // The totals of a port since the start: in the board, and in a driver's tally record.
 #![tactic(auto)]
 
-ghost use Rattle.std.specs.Prelude.{◌≡◌, ◌-◌};
+ghost use Rattle.std.specs.Prelude.{◌≡◌};
 ghost use Rattle.totals.specs.Tally.{plus_up_to, zero_tally, good_bytes, counted_of};
 
 // Each total stops at its largest figure.
 #[repr(C)]
-#[derive(Clone, Copy)]
+#[derive(Clone, Copy, PartialEq, Eq)]
 pub struct Tally {
     // bytes taken from the chunks, bytes that the scan skipped, and bytes of good messages
     pub taken: u64,
@@ -17,22 +17,12 @@ pub struct Tally {
 }
 
 // The sum, or the largest figure where it does not fit.
+#[tactic(auto, unfolding(crate::specs::Tally::plus_up_to))]
 pub fn plus_up_to(total: u64, n: usize) -> u64
     ensures { result ≡ plus_up_to total n }
 {
-    let more = n as u64;
-    if more <= u64::MAX - total {
-        total + more
-    } else {
-        u64::MAX
-    }
-}
-
-// The part of `x` beyond `y`.
-fn excess(x: usize, y: usize) -> usize
-    ensures { result ≡ x - y }
-{
-    if x < y { 0 } else { x - y }
+    // Kept: (d) the cast: std has no u64::from(usize), and u64::try_from can fail
+    total.saturating_add(n as u64)
 }
 
 // A total with the good bytes of a call more: taken plus before, less skipped, less after, at least 0. They are made of differences alone,
@@ -41,8 +31,12 @@ fn excess(x: usize, y: usize) -> usize
 fn plus_good(total: u64, taken: usize, skipped: usize, before: usize, after: usize) -> u64
     ensures { result ≡ plus_up_to total (good_bytes taken skipped before after) }
 {
-    let more = excess(excess(taken, skipped), excess(after, before));
-    let rest = excess(excess(before, after), excess(skipped, taken));
+    let more = taken
+        .saturating_sub(skipped)
+        .saturating_sub(after.saturating_sub(before));
+    let rest = before
+        .saturating_sub(after)
+        .saturating_sub(skipped.saturating_sub(taken));
     plus_up_to(plus_up_to(total, more), rest)
 }
 
@@ -64,6 +58,8 @@ impl Tally {
 
     // The totals after a call that answered `number`, took and skipped so many bytes and whose reply has the first error `error`; its port
     // held `before` bytes before it and `after` bytes after it.
+    // Kept: (d) no struct for these six: each caller has them apart, as `ketphiroj_count` of the C interface, or in a record of another
+    // shape, as the board's step, and would name all six once more to build it.
     pub fn counted(
         self,
         number: u8,
@@ -82,12 +78,9 @@ impl Tally {
         t.good = plus_good(t.good, taken, skipped, before, after);
         t.taken = plus_up_to(t.taken, taken);
         t.skipped = plus_up_to(t.skipped, skipped);
-        if number == 0 {
-            if error < 8 {
-                let e = error as usize;
-                let old = t.errors[e];
-                t.errors[e] = plus_up_to(old, 1);
-            }
+        if number == 0 && error < 8 {
+            let e = usize::from(error);
+            t.errors[e] = plus_up_to(t.errors[e], 1);
         }
         t
     }

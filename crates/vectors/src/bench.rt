@@ -1,33 +1,27 @@
 // The board that the lines of a script go on with, and its page.
-ghost use Rattle.std.specs.Prelude.{◌≡◌, ◌≤◌};
-
-use crate::output::Output;
+use crate::output::{Bytes, Output, prefix};
+use crate::tallies;
 use crate::text::MOST;
-use crate::{tallies, text};
-use board::{Board, Fed, Port, Started, StartedInPlace, Stepped};
+use board::{Board, Fed, Port, Started, Stepped};
 use command::Settings;
+use std::io::{self, Write};
 use totals::Tally;
 
 // The page has the first `length` of the bytes, so that it can be one of more than 64 bytes too.
-#[derive(Drop)]
+#[derive(Clone, Copy)]
 pub struct Bench {
     pub board: Board,
+    // Kept: no heap, so the page is an array with its length beside it
     bytes: [u8; 80],
     length: usize,
 }
 
-// What a line leaves: the bench, and what is printed.
-#[derive(Drop)]
-pub struct Told {
-    pub bench: Bench,
-    pub out: Output,
-}
-
-// What a feed or a silence answers, and the bench after it.
-#[derive(Drop)]
-pub struct FeedStep {
-    pub fed: Fed,
-    pub bench: Bench,
+// A call to a port: a feed of a chunk, or with `quiet` a silence.
+#[derive(Clone, Copy)]
+pub struct Call<'a> {
+    pub port: u8,
+    pub quiet: bool,
+    pub chunk: &'a [u8],
 }
 
 impl Bench {
@@ -41,120 +35,84 @@ impl Bench {
 
     pub(crate) fn blank() -> Self {
         let bytes = [0xFFu8; 80];
-        let started = board::start(Board::FULL, text::prefix(&bytes, 64));
-        let board = started.board;
-        Bench::on(board, bytes, 64)
+        let started = board::start(Board::FULL, prefix(&bytes, 64));
+        Bench::on(started.board, bytes, 64)
     }
 
-    pub(crate) fn with_board(self, board: Board) -> Self {
-        let bytes = self.bytes;
-        Bench::on(board, bytes, self.length)
+    pub(crate) fn page(&self) -> &[u8] {
+        prefix(&self.bytes, self.length)
     }
 
-    fn copy(&self) -> Self {
-        Bench::on(copy_board(&self.board), self.bytes, self.length)
-    }
-
-    pub(crate) fn with_settings(self, settings: Settings) -> Self {
-        let bytes = self.bytes;
-        let length = self.length;
-        let board = self.board;
-        let first = board.first;
-        let second = board.second;
-        let readonly = board.readonly;
-        let tally0 = board.tally0;
-        let tally1 = board.tally1;
-        let next = Board {
-            first,
-            second,
-            settings,
-            readonly,
-            tally0,
-            tally1,
-        };
-        Bench::on(next, bytes, length)
-    }
-
-    // Port 0, or the other one, and its totals.
-    pub(crate) fn with_port(self, number: u8, port: Port, tally: Tally) -> Self {
-        let bytes = self.bytes;
-        let length = self.length;
-        let board = self.board;
-        let settings = board.settings;
-        let first = board.first;
-        let second = board.second;
-        let readonly = board.readonly;
-        let tally0 = board.tally0;
-        let tally1 = board.tally1;
-        if number == 0 {
-            let next = Board {
-                first: port,
-                second,
-                settings,
-                readonly,
-                tally0: tally,
-                tally1,
-            };
-            return Bench::on(next, bytes, length);
-        }
-        let next = Board {
-            first,
-            second: port,
-            settings,
-            readonly,
-            tally0,
-            tally1: tally,
-        };
-        Bench::on(next, bytes, length)
-    }
-
-    pub(crate) fn tally(&self, number: u8) -> Tally {
-        let board = &self.board;
-        if number == 0 {
-            board.tally0
-        } else {
-            board.tally1
-        }
-    }
-
+    // Port 0, or the other one.
     pub(crate) fn port(&self, number: u8) -> Port {
-        let board = &self.board;
         if number == 0 {
-            copy_port(&board.first)
+            self.board.first
         } else {
-            copy_port(&board.second)
+            self.board.second
         }
     }
 
-    // Feeds a chunk to a port as if `room` ended after `n` bytes.
-    pub(crate) fn feed(&self, port: u8, chunk: &[u8], room: &mut [u8], n: usize) -> FeedStep {
-        self.call(port, false, chunk, room, n)
+    pub(crate) fn set_port(&mut self, number: u8, port: Port) {
+        if number == 0 {
+            self.board.first = port;
+        } else {
+            self.board.second = port;
+        }
     }
 
-    // Says that a port's line has gone quiet, with such a room.
-    pub(crate) fn silence(&self, port: u8, room: &mut [u8], n: usize) -> FeedStep {
-        self.call(port, true, b"", room, n)
+    // The totals of port 0, or of the other one.
+    pub(crate) fn tally(&self, number: u8) -> Tally {
+        if number == 0 {
+            self.board.tally0
+        } else {
+            self.board.tally1
+        }
     }
 
-    // A feed, or with `quiet` a silence.
-    fn call(&self, port: u8, quiet: bool, chunk: &[u8], room: &mut [u8], n: usize) -> FeedStep {
+    pub(crate) fn set_tally(&mut self, number: u8, tally: Tally) {
+        if number == 0 {
+            self.board.tally0 = tally;
+        } else {
+            self.board.tally1 = tally;
+        }
+    }
+
+    pub(crate) fn call(&mut self, call: Call<'_>, room: &mut [u8]) -> Fed {
         let mut bytes = self.bytes;
-        let board = copy_board(&self.board);
-        let length = self.length;
-        let fed = call_parts(port, board, quiet, chunk, room, n, &mut bytes, length);
-        let after = copy_board(&fed.board);
-        let bench = Bench::on(after, bytes, length);
-        FeedStep { fed, bench }
+        let page = front(&mut bytes, self.length);
+        let fed = if call.quiet {
+            board::silence(call.port, self.board, room, page)
+        } else {
+            board::feed(call.port, self.board, call.chunk, room, page)
+        };
+        self.board = fed.board;
+        self.bytes = bytes;
+        fed
+    }
+
+    pub(crate) fn feed(&mut self, port: u8, chunk: &[u8], room: &mut [u8]) -> Fed {
+        let call = Call {
+            port,
+            quiet: false,
+            chunk,
+        };
+        self.call(call, room)
+    }
+
+    // Feeds a message to a port as if it held nothing. Both ports stay as they are: only the settings, the port's totals and the page go on.
+    pub(crate) fn feed_alone(&mut self, port: u8, message: &[u8], room: &mut [u8]) -> Fed {
+        let held = self.port(port);
+        self.set_port(port, Port::new());
+        let fed = self.feed(port, message, room);
+        self.set_port(port, held);
+        fed
     }
 
     // Whether a driver's record of the port, updated from what a call answered, has the totals that the board has after it.
-    pub(crate) fn agrees_in_record(&self, port: u8, step: &FeedStep) -> bool {
-        let fed = &step.fed;
-        let after = &step.bench;
+    pub(crate) fn agrees_in_record(&self, port: u8, fed: &Fed, after: &Bench) -> bool {
         let before = self.port(port);
         let left = after.port(port);
-        let kept = self.tally(port);
-        let counted = kept.counted(
+        let counted = self.tally(port).counted(
             fed.number,
             fed.taken,
             fed.skipped,
@@ -162,212 +120,128 @@ impl Bench {
             before.held,
             left.held,
         );
-        tallies::same(counted, after.tally(port))
+        counted == after.tally(port)
     }
 
-    // Whether a call in place answers and leaves what the call by value did, which gave `step` and left `room`.
+    // Whether a call in place answers and leaves what the call by value did, which answered `fed` and left `after` and `room`.
     pub(crate) fn agrees_in_place(
         &self,
-        port: u8,
-        quiet: bool,
-        chunk: &[u8],
-        step: &FeedStep,
+        call: Call<'_>,
+        fed: &Fed,
+        after: &Bench,
         room: &[u8],
     ) -> bool {
-        let named = self.port(port);
+        let named = self.port(call.port);
         let mut array = named.bytes;
         let mut replies = [0xEEu8; MOST];
         let mut page = self.bytes;
-        let mut totals = tallies::row_of(self.tally(port));
-        let n = room.len();
+        let mut totals = tallies::row_of(self.tally(call.port));
         let s = self.call_in_place(
-            port,
-            quiet,
+            call,
             &mut totals,
-            chunk,
             &mut array,
-            &mut replies,
-            n,
-            &mut page,
+            front(&mut replies, room.len()),
+            front(&mut page, self.length),
         );
-        let after = &step.bench;
-        let left = after.port(port);
-        same_answer(s, &step.fed, left.held)
-            && tallies::same(tallies::tally_of(totals), after.tally(port))
-            && text::same(&array, &left.bytes)
-            && text::same(text::prefix(&replies, n), room)
-            && text::same(&page, &after.bytes)
+        let left = after.port(call.port);
+        same_answer(s, fed, left.held)
+            && tallies::tally_of(totals) == after.tally(call.port)
+            && array == left.bytes
+            && prefix(&replies, room.len()) == room
+            && page == after.bytes
     }
 
-    // A call in place, with a room that ends after `n` bytes. A silence that is given no chunk has a call of its own.
+    // A call in place. A silence that is given no chunk has a call of its own.
     fn call_in_place(
         &self,
-        port: u8,
-        quiet: bool,
+        call: Call<'_>,
         totals: &mut [u64],
-        chunk: &[u8],
         bytes: &mut [u8],
         room: &mut [u8],
-        n: usize,
         page: &mut [u8],
     ) -> Stepped {
         let board = &self.board;
-        let w = board.settings;
-        let readonly = board.readonly;
-        let one = &board.first;
-        let two = &board.second;
-        let first = one.held;
-        let second = two.held;
-        let r = within(n, room.len());
-        let p = within(self.length, page.len());
-        let replies = &mut room[0..r];
-        let saved = &mut page[0..p];
-        if quiet && chunk.len() == 0 {
+        let Call { port, quiet, chunk } = call;
+        let (first, second) = (board.first.held, board.second.held);
+        let (w, readonly) = (board.settings, board.readonly);
+        if quiet && chunk.is_empty() {
             return board::silence_in_place(
-                port, bytes, first, second, w, readonly, totals, replies, saved,
+                port, bytes, first, second, w, readonly, totals, room, page,
             );
         }
         board::call_in_place(
-            port, bytes, first, second, w, readonly, quiet, totals, chunk, replies, saved,
+            port, bytes, first, second, w, readonly, quiet, totals, chunk, room, page,
         )
-    }
-
-    // Feeds a message to a port as if it held nothing. Both ports stay as they are: only the settings, the port's totals and the page go on.
-    pub(crate) fn feed_alone(
-        &self,
-        port: u8,
-        message: &[u8],
-        room: &mut [u8],
-        n: usize,
-    ) -> FeedStep {
-        let tally = self.tally(port);
-        let alone = self.copy().with_port(port, Port::new(), tally);
-        let step = alone.feed(port, message, room, n);
-        let fed = step.fed;
-        let after = step.bench;
-        let held = self.port(port);
-        let counted = after.tally(port);
-        let bench = after.with_port(port, held, counted);
-        FeedStep { fed, bench }
     }
 
     // A new board on the page as it stands, in the profile of this one.
     pub(crate) fn started(&self) -> Started {
-        let board = &self.board;
-        board::start(board.readonly, text::prefix(&self.bytes, self.length))
-    }
-
-    pub(crate) fn same_page(&self, other: &Bench) -> bool {
-        text::same(&self.bytes, &other.bytes)
+        board::start(self.board.readonly, self.page())
     }
 
     // Only where it has changed.
-    pub(crate) fn say_page(&self, before: &Bench, out: Output) -> Output {
+    pub(crate) fn say_page(&self, before: &Bench, out: &mut Output) -> io::Result<()> {
         if self.same_page(before) {
-            return out;
+            return Ok(());
         }
-        self.say_whole_page(out.text(b", page "))
+        write!(out, ", page {}", Bytes(self.page()))
     }
 
-    pub(crate) fn say_whole_page(&self, out: Output) -> Output {
-        out.bytes(text::prefix(&self.bytes, self.length))
-    }
-}
-
-// A port and a board are moved where they are passed on: a second one is made by name.
-fn copy_port(port: &Port) -> Port
-    ensures { result ≡ port.now }
-{
-    Port {
-        bytes: port.bytes,
-        held: port.held,
+    pub(crate) fn same_page(&self, other: &Bench) -> bool {
+        self.bytes == other.bytes
     }
 }
 
-fn copy_board(board: &Board) -> Board
-    ensures { result ≡ board.now }
-{
-    Board {
-        first: copy_port(&board.first),
-        second: copy_port(&board.second),
-        settings: board.settings,
-        readonly: board.readonly,
-        tally0: board.tally0,
-        tally1: board.tally1,
-    }
-}
-
-// A call with a room that ends after `n` bytes and a page that ends after `k`.
-fn call_parts(
-    port: u8,
-    board: Board,
-    quiet: bool,
-    chunk: &[u8],
-    room: &mut [u8],
-    n: usize,
-    page: &mut [u8],
-    k: usize,
-) -> Fed {
-    let r = within(n, room.len());
-    let p = within(k, page.len());
-    if quiet {
-        return board::silence(port, board, &mut room[0..r], &mut page[0..p]);
-    }
-    board::feed(port, board, chunk, &mut room[0..r], &mut page[0..p])
-}
-
-// A start in place on the first `n` bytes of one array and the first `m` of another.
-pub(crate) fn start_parts(
-    readonly: bool,
-    first: &mut [u8],
-    n: usize,
-    second: &mut [u8],
-    m: usize,
-    page: &[u8],
-) -> StartedInPlace {
-    let a = within(n, first.len());
-    let b = within(m, second.len());
-    board::start_in_place(readonly, &mut first[0..a], &mut second[0..b], page)
-}
-
-// The smaller of the two.
-fn within(n: usize, length: usize) -> usize
-    ensures { result ≤ length }
-{
-    if n < length { n } else { length }
+// The first `n` bytes, all where there are fewer.
+fn front(s: &mut [u8], n: usize) -> &mut [u8] {
+    let end = n.min(s.len());
+    &mut s[..end]
 }
 
 fn same_answer(s: Stepped, fed: &Fed, held: usize) -> bool {
-    let board = &fed.board;
     s.number == fed.number
         && s.taken == fed.taken
         && s.skipped == fed.skipped
         && s.error == fed.error
         && s.saved == fed.saved
         && s.held == held
-        && same_settings(s.settings, board.settings)
+        && s.settings == fed.board.settings
 }
 
-pub(crate) fn same_settings(a: Settings, b: Settings) -> bool {
-    a.baud == b.baud && a.accelerometer == b.accelerometer && a.gyroscope == b.gyroscope
+pub(crate) fn say_settings(w: Settings, out: &mut Output) -> io::Result<()> {
+    write!(out, "{} {} {}", w.baud, w.accelerometer, w.gyroscope)
 }
 
-pub(crate) fn bad_line(bench: Bench, out: Output) -> Told {
-    let told = out.bad_line();
-    Told { bench, out: told }
+// The word for the mark of a save.
+pub(crate) fn mark(saved: bool) -> &'static str {
+    if saved { "saved" } else { "same" }
 }
 
-pub(crate) fn say_settings(w: Settings, out: Output) -> Output {
-    out.decimal(w.baud as u64)
-        .byte(b' ')
-        .decimal(w.accelerometer as u64)
-        .byte(b' ')
-        .decimal(w.gyroscope as u64)
+// A stream that is fed whole to port 0 of a board with a blank page, from one message to the next.
+#[derive(Drop)]
+pub struct Whole<'a> {
+    pub bench: Bench,
+    rest: &'a [u8],
+    pub taken: usize,
+    pub skipped: usize,
 }
 
-pub(crate) fn say_saved(saved: bool, out: Output) -> Output {
-    if saved {
-        return out.text(b", saved, ");
+impl<'a> Whole<'a> {
+    pub(crate) fn of(stream: &'a [u8]) -> Self {
+        Whole {
+            bench: Bench::blank(),
+            rest: stream,
+            taken: 0,
+            skipped: 0,
+        }
     }
-    out.text(b", same, ")
+
+    // Feeds what is left. The next message is answered, and its reply is in the room; there is none where a feed reports none.
+    pub(crate) fn message(&mut self, room: &mut [u8]) -> Option<Fed> {
+        let fed = self.bench.feed(0, self.rest, room);
+        self.rest = self.rest.get(fed.taken..).unwrap_or(&[]);
+        self.taken = self.taken.wrapping_add(fed.taken);
+        self.skipped = self.skipped.wrapping_add(fed.skipped);
+        if fed.number == 0 { Some(fed) } else { None }
+    }
 }

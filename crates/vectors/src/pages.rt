@@ -1,72 +1,70 @@
 // The verbs on the start-up page: page, body, pages.
-use crate::output::Output;
-use crate::text::{MOST, Number, Octet};
-use crate::{samples, scans, text};
-use page::{Stored, Values};
+use crate::output::{Bytes, Output};
+use crate::text::{Fault, MOST, Words};
+use crate::{samples, text};
+use page::Values;
+use refusal::Refusal;
+use std::io::{self, Write};
 
-pub(crate) fn outcome(verb: &[u8], args: &[u8], out: Output) -> Output {
-    if text::same(verb, b"page") {
-        return page(args, out);
+pub(crate) fn outcome(verb: &[u8], args: Words<'_>, out: &mut Output) -> Result<(), Fault> {
+    match verb {
+        b"page" => page(args, out),
+        b"body" => body(args, out),
+        b"pages" => Ok(pages(out)?),
+        _ => samples::outcome(verb, args, out),
     }
-    if text::same(verb, b"body") {
-        return body(args, out);
-    }
-    if text::same(verb, b"pages") {
-        return pages(out);
-    }
-    samples::outcome(verb, args, out)
 }
 
 // Bytes, or one of two words: `blank`, `factory`.
-pub(crate) fn read_page(word: &[u8], room: &mut [u8]) -> Number {
-    if text::same(word, b"blank") {
-        return text::read_bytes(b"FF*64", room);
+pub(crate) fn read_page<'a>(word: &[u8], room: &'a mut [u8]) -> Result<&'a [u8], Fault> {
+    match word {
+        b"blank" => text::bytes(b"FF*64", room),
+        b"factory" => factory(room),
+        _ => text::bytes(word, room),
     }
-    if text::same(word, b"factory") {
-        scans::copy(&page::factory_page(), room, 0);
-        return Number::Value(64);
-    }
-    text::read_bytes(word, room)
 }
 
-fn page(args: &[u8], out: Output) -> Output {
+fn factory(room: &mut [u8]) -> Result<&[u8], Fault> {
+    let page = page::factory_page();
+    let front = text::front(room, page.len())?;
+    for (b, x) in front.iter_mut().zip(&page) {
+        *b = *x;
+    }
+    Ok(front)
+}
+
+fn page(args: Words<'_>, out: &mut Output) -> Result<(), Fault> {
     let mut room = [0u8; MOST];
-    let Number::Value(n) = read_page(args, &mut room) else {
-        return out.bad_line();
-    };
-    let s = text::prefix(&room, n);
+    let s = read_page(args.last(), &mut room)?;
     let number = page::check_page(s);
-    say_values(page::values_of(s), out.decimal(number as u64).byte(b','))
+    write!(out, "{number},")?;
+    Ok(say_values(page::values_of(s), out)?)
 }
 
-fn say_values(values: Values, out: Output) -> Output {
+fn say_values(values: Values, out: &mut Output) -> io::Result<()> {
     let baud = values.baud;
     let accelerometer = values.accelerometer;
     let gyroscope = values.gyroscope;
     let number = values.number;
-    say_stored(
-        number,
-        say_stored(gyroscope, say_stored(accelerometer, say_stored(baud, out))),
-    )
+    say_stored(baud, out)?;
+    say_stored(accelerometer, out)?;
+    say_stored(gyroscope, out)?;
+    say_stored(number, out)
 }
 
-fn say_stored(stored: Stored, out: Output) -> Output {
+fn say_stored(stored: Option<u32>, out: &mut Output) -> io::Result<()> {
     match stored {
-        Stored::Absent => out.text(b" -"),
-        Stored::Value(x) => out.byte(b' ').decimal(x as u64),
+        None => write!(out, " -"),
+        Some(x) => write!(out, " {x}"),
     }
 }
 
-fn body(args: &[u8], out: Output) -> Output {
-    let Octet::Value(code) = text::read_octet(text::first_word(args)) else {
-        return out.bad_line();
-    };
+fn body(mut args: Words<'_>, out: &mut Output) -> Result<(), Fault> {
+    let code = text::octet(args.word())?;
     let mut room = [0u8; MOST];
-    let Number::Value(n) = read_page(text::other_words(args), &mut room) else {
-        return out.bad_line();
-    };
+    let s = read_page(args.last(), &mut room)?;
     let factory = page::factory_page();
-    out.bytes(page::body(text::prefix(&room, n), &factory, code))
+    Ok(write!(out, "{}", Bytes(page::body(s, &factory, code)))?)
 }
 
 // What came of the writings: how many write_page wrote, how many of these pages check_page found sound and values_of
@@ -80,150 +78,99 @@ struct Tally {
 }
 
 // Each setting has no value, a storable one, or one that is just out of range.
-fn pages(out: Output) -> Output {
+fn pages(out: &mut Output) -> io::Result<()> {
     let mut tally = Tally {
         written: 0,
         sound: 0,
         read_back: 0,
         refused: 0,
     };
-    let mut baud = 0;
-    while baud < 19 {
-        tally = with_baud(tally, baud_choice(baud));
-        baud += 1;
+    for baud in 0..19 {
+        tally.try_baud(baud_choice(baud));
     }
-    say_tally(tally, out)
+    say_tally(&tally, out)
 }
 
-fn with_baud(tally: Tally, baud: Stored) -> Tally {
-    let mut next = tally;
-    let mut accelerometer = 0;
-    while accelerometer < 7 {
-        next = with_ranges(next, baud, choice(accelerometer, 5));
-        accelerometer += 1;
-    }
-    next
-}
-
-fn with_ranges(tally: Tally, baud: Stored, accelerometer: Stored) -> Tally {
-    let mut next = tally;
-    let mut i = 0;
-    while i < 10 {
-        let gyroscope = choice(i, 8);
-        next = with_numbers(next, baud, accelerometer, gyroscope);
-        i += 1;
-    }
-    next
-}
-
-// No number, the smallest, the largest, and one of four different bytes.
-fn with_numbers(tally: Tally, baud: Stored, accelerometer: Stored, gyroscope: Stored) -> Tally {
-    let mut next = tally;
-    let mut i = 0;
-    while i < 4 {
-        let number = number_choice(i);
-        next = next.with(Values {
-            baud,
-            accelerometer,
-            gyroscope,
-            number,
-        });
-        i += 1;
-    }
-    next
-}
-
-fn number_choice(i: u32) -> Stored {
+fn number_choice(i: u32) -> Option<u32> {
     match i {
-        0 => Stored::Absent,
-        1 => Stored::Value(0),
-        2 => Stored::Value(0xFFFF_FFFF),
-        _ => Stored::Value(0x0102_0304),
+        0 => None,
+        1 => Some(0),
+        2 => Some(0xFFFF_FFFF),
+        _ => Some(0x0102_0304),
     }
 }
 
 // The values from 0 to `last`, then none.
-fn choice(i: u32, last: u32) -> Stored {
-    if i > last {
-        Stored::Absent
-    } else {
-        Stored::Value(i)
-    }
+fn choice(i: u32, last: u32) -> Option<u32> {
+    if i > last { None } else { Some(i) }
 }
 
 // Each rate, one less and one more; then none.
-fn baud_choice(i: u32) -> Stored {
+fn baud_choice(i: u32) -> Option<u32> {
     match i / 3 {
-        0 => Stored::Value(9599 + i % 3),
-        1 => Stored::Value(19199 + i % 3),
-        2 => Stored::Value(115199 + i % 3),
-        3 => Stored::Value(230399 + i % 3),
-        4 => Stored::Value(460799 + i % 3),
-        5 => Stored::Value(921599 + i % 3),
-        _ => Stored::Absent,
+        0 => Some(9599 + i % 3),
+        1 => Some(19199 + i % 3),
+        2 => Some(115199 + i % 3),
+        3 => Some(230399 + i % 3),
+        4 => Some(460799 + i % 3),
+        5 => Some(921599 + i % 3),
+        _ => None,
     }
 }
 
 impl Tally {
-    fn with(self, values: Values) -> Self {
-        let mut s = [0x5Au8; 64];
-        let number = page::write_page(values, &mut s);
-        let refused = number == 20 && text::same(&s, &[0x5Au8; 64]);
-        let written = number == 0;
-        let sound = written && page::check_page(&s) == 0;
-        let read_back = written && same_values(page::values_of(&s), values);
-        Tally {
-            written: one_more(self.written, written),
-            sound: one_more(self.sound, sound),
-            read_back: one_more(self.read_back, read_back),
-            refused: one_more(self.refused, refused),
+    fn try_baud(&mut self, baud: Option<u32>) {
+        for i in 0..7 {
+            self.try_ranges(baud, choice(i, 5));
         }
     }
-}
 
-fn one_more(n: u32, more: bool) -> u32 {
-    if more {
-        std::num::wrapping_add_u32(n, 1)
-    } else {
-        n
+    fn try_ranges(&mut self, baud: Option<u32>, accelerometer: Option<u32>) {
+        for i in 0..10 {
+            self.try_numbers(baud, accelerometer, choice(i, 8));
+        }
+    }
+
+    // No number, the smallest, the largest, and one of four different bytes.
+    fn try_numbers(
+        &mut self,
+        baud: Option<u32>,
+        accelerometer: Option<u32>,
+        gyroscope: Option<u32>,
+    ) {
+        for i in 0..4 {
+            self.try_values(Values {
+                baud,
+                accelerometer,
+                gyroscope,
+                number: number_choice(i),
+            });
+        }
+    }
+
+    fn try_values(&mut self, values: Values) {
+        let mut s = [0x5Au8; 64];
+        let answer = page::write_page(values, &mut s);
+        let refused = answer == Err(Refusal::Page) && s == [0x5Au8; 64];
+        let written = answer.is_ok();
+        let sound = written && page::check_page(&s) == 0;
+        let read_back = written && page::values_of(&s) == values;
+        count_if(&mut self.written, written);
+        count_if(&mut self.sound, sound);
+        count_if(&mut self.read_back, read_back);
+        count_if(&mut self.refused, refused);
     }
 }
 
-fn same_values(a: Values, b: Values) -> bool {
-    let baud = a.baud;
-    let accelerometer = a.accelerometer;
-    let gyroscope = a.gyroscope;
-    let number = a.number;
-    let rate = b.baud;
-    let acceleration = b.accelerometer;
-    let rotation = b.gyroscope;
-    let last = b.number;
-    same_stored(baud, rate)
-        && same_stored(accelerometer, acceleration)
-        && same_stored(gyroscope, rotation)
-        && same_stored(number, last)
+fn count_if(n: &mut u32, more: bool) {
+    *n = n.wrapping_add(u32::from(more));
 }
 
-fn same_stored(a: Stored, b: Stored) -> bool {
-    match a {
-        Stored::Absent => match b {
-            Stored::Absent => true,
-            _ => false,
-        },
-        Stored::Value(x) => match b {
-            Stored::Value(y) => x == y,
-            _ => false,
-        },
-    }
-}
-
-fn say_tally(tally: Tally, out: Output) -> Output {
-    out.decimal(tally.written as u64)
-        .text(b" written, ")
-        .decimal(tally.sound as u64)
-        .text(b" sound, ")
-        .decimal(tally.read_back as u64)
-        .text(b" read back; ")
-        .decimal(tally.refused as u64)
-        .text(b" refused")
+fn say_tally(tally: &Tally, out: &mut Output) -> io::Result<()> {
+    let (written, sound) = (tally.written, tally.sound);
+    let (read_back, refused) = (tally.read_back, tally.refused);
+    write!(
+        out,
+        "{written} written, {sound} sound, {read_back} read back; {refused} refused"
+    )
 }

@@ -1,12 +1,26 @@
 // The verb `stream`: the same bytes in pieces of several sizes, to either port alone and to both in turn.
-use crate::bench::Bench;
-use crate::output::Output;
-use crate::text::{MOST, Number};
-use crate::{bench, listings, text};
+use crate::bench::{Bench, Whole};
+use crate::boards::size_with;
+use crate::output::{Bytes, Output, prefix};
+use crate::text::{Fault, MOST, Words};
+use crate::{listings, text};
 use board::{Fed, Port};
+use std::io::{self, Write};
 
 // A feed reports a message, of which there are no more than bytes, or uses up a piece.
 const TURNS: usize = 2 * MOST + 2;
+
+// Sizes of pieces, each with that of the other port's where both are fed in turn.
+const SIZES: [(usize, usize); 8] = [
+    (1, 5),
+    (2, 7),
+    (3, 11),
+    (5, 64),
+    (7, MOST),
+    (11, 1),
+    (64, 2),
+    (MOST, 3),
+];
 
 // How far the stream is fed to one port, and what has come of it.
 #[derive(Clone, Copy)]
@@ -32,98 +46,60 @@ struct Run {
     second: Track,
 }
 
-// One port of it.
-#[derive(Drop)]
-struct Stand {
-    bench: Bench,
-    track: Track,
-}
-
-pub(crate) fn outcome(verb: &[u8], args: &[u8], out: Output) -> Output {
-    if text::same(verb, b"stream") {
-        return stream(args, out);
+pub(crate) fn outcome(verb: &[u8], args: Words<'_>, out: &mut Output) -> Result<(), Fault> {
+    match verb {
+        b"stream" => stream(args, out),
+        _ => listings::outcome(verb, args, out),
     }
-    listings::outcome(verb, args, out)
 }
 
-fn stream(args: &[u8], out: Output) -> Output {
+fn stream(args: Words<'_>, out: &mut Output) -> Result<(), Fault> {
     let mut room = [0u8; MOST];
-    let Number::Value(n) = text::read_bytes(args, &mut room) else {
-        return out.bad_line();
-    };
-    let s = text::prefix(&room, n);
+    let s = text::bytes(args.last(), &mut room)?;
     let whole = feed_pieces(s, MOST, 0);
-    say_sizes(s, &whole, say_replies(s, say_run(&whole, out)))
+    say_run(&whole, out)?;
+    say_replies(s, out)?;
+    Ok(say_sizes(s, &whole, out)?)
 }
 
-fn say_run(run: &Run, out: Output) -> Output {
-    let bench = &run.bench;
+fn say_run(run: &Run, out: &mut Output) -> io::Result<()> {
     let track = run.first;
-    let port = bench.port(0);
-    out.decimal(track.messages as u64)
-        .text(b" reported, taken ")
-        .decimal(track.taken as u64)
-        .text(b", skipped ")
-        .decimal(track.skipped as u64)
-        .text(b", held ")
-        .decimal(port.held as u64)
+    let port = run.bench.port(0);
+    let (messages, taken, skipped) = (track.messages, track.taken, track.skipped);
+    write!(
+        out,
+        "{messages} reported, taken {taken}, skipped {skipped}, held {}",
+        port.held
+    )
 }
 
 // The stream in one piece, from one message to the next.
-fn say_replies(s: &[u8], out: Output) -> Output {
-    let mut bench = Bench::blank();
-    let mut told = out;
-    let mut at = 0;
-    let mut turn = 0;
-    while turn < TURNS {
+fn say_replies(s: &[u8], out: &mut Output) -> io::Result<()> {
+    let mut whole = Whole::of(s);
+    for _ in 0..TURNS {
         let mut room = [0xEEu8; Port::REPLY];
-        let step = bench.feed(0, text::part(s, at, s.len()), &mut room, Port::REPLY);
-        let fed = step.fed;
-        if fed.number != 0 {
-            return told;
-        }
-        told = told.text(b", ").bytes(reply_in(&room));
-        at = std::num::wrapping_add_usize(at, fed.taken);
-        bench = step.bench;
-        turn += 1;
+        let Some(_) = whole.message(&mut room) else {
+            break;
+        };
+        write!(out, ", {}", Bytes(reply_in(&room)))?;
     }
-    told
+    Ok(())
 }
 
 // The message at the front.
 fn reply_in(room: &[u8; 166]) -> &[u8] {
-    text::prefix(room, length_with(room[3]))
-}
-
-// The length of a message over a payload of `n` bytes.
-fn length_with(n: u8) -> usize {
-    n as usize + 6
+    prefix(room, size_with(room[3]))
 }
 
 // Ends at the first size that changes what a port gives.
-fn say_sizes(s: &[u8], whole: &Run, out: Output) -> Output {
-    let mut k = 0;
-    while k < 8 {
-        let size = piece_size(k);
-        if !size_agrees(s, whole, size, piece_size((k + 3) % 8)) {
-            return out.differs(b"; differs at size ").decimal(size as u64);
+fn say_sizes(s: &[u8], whole: &Run, out: &mut Output) -> io::Result<()> {
+    for (size, other) in &SIZES {
+        if !size_agrees(s, whole, *size, *other) {
+            out.fault("; differs at size ")?;
+            return write!(out, "{size}");
         }
-        k += 1;
     }
-    out.text(b"; same")
-}
-
-fn piece_size(k: usize) -> usize {
-    match k {
-        0 => 1,
-        1 => 2,
-        2 => 3,
-        3 => 5,
-        4 => 7,
-        5 => 11,
-        6 => 64,
-        _ => MOST,
-    }
+    out.write_all(b"; same")
 }
 
 // Each port alone gives what the whole stream gave, and leaves the other fresh. With both in turn the settings are shared,
@@ -151,28 +127,24 @@ impl Run {
 }
 
 fn counts_agree(run: &Run, port: u8, track: Track, held: &Port) -> bool {
-    let bench = &run.bench;
     let t = run.track(port);
     t.taken == track.taken
         && t.messages == track.messages
         && t.skipped == track.skipped
         && t.marks == track.marks
-        && same_port(&bench.port(port), held)
+        && same_port(&run.bench.port(port), held)
 }
 
 fn all_agree(run: &Run, port: u8, track: Track, after: &Bench) -> bool {
-    let bench = &run.bench;
-    let board = &bench.board;
-    let other = &after.board;
     let t = run.track(port);
     counts_agree(run, port, track, &after.port(0))
         && t.replies == track.replies
-        && bench::same_settings(board.settings, other.settings)
-        && bench.same_page(after)
+        && run.bench.board.settings == after.board.settings
+        && run.bench.same_page(after)
 }
 
 fn same_port(a: &Port, b: &Port) -> bool {
-    a.held == b.held && text::same(&a.bytes, &b.bytes)
+    a.held == b.held && a.bytes == b.bytes
 }
 
 // Feeds the stream to each port in pieces of its size, the ports in turn.
@@ -180,39 +152,14 @@ fn feed_pieces(s: &[u8], first: usize, second: usize) -> Run {
     let mut bench = Bench::blank();
     let mut one = Track::new(first);
     let mut two = Track::new(second);
-    let mut turn = 0;
-    while turn < TURNS {
-        let a = advance(bench, 0, one, s);
-        one = a.track;
-        let b = advance(a.bench, 1, two, s);
-        two = b.track;
-        bench = b.bench;
-        turn += 1;
+    for _ in 0..TURNS {
+        one.advance(&mut bench, 0, s);
+        two.advance(&mut bench, 1, s);
     }
     Run {
         bench,
         first: one,
         second: two,
-    }
-}
-
-// One feed of a port that is not done.
-fn advance(bench: Bench, port: u8, track: Track, s: &[u8]) -> Stand {
-    if track.done {
-        return Stand { bench, track };
-    }
-    let mut room = [0xEEu8; Port::REPLY];
-    let step = bench.feed(
-        port,
-        text::part(s, track.taken, track.end),
-        &mut room,
-        Port::REPLY,
-    );
-    let fed = step.fed;
-    let after = step.bench;
-    Stand {
-        bench: after,
-        track: track.after(&fed, &room, s.len()),
     }
 }
 
@@ -230,39 +177,34 @@ impl Track {
         }
     }
 
-    fn after(self, fed: &Fed, room: &[u8; 166], length: usize) -> Self {
-        let mut next = self;
-        next.taken = std::num::wrapping_add_usize(self.taken, fed.taken);
-        next.skipped = std::num::wrapping_add_usize(self.skipped, fed.skipped);
-        if fed.number == 0 {
-            next.messages = std::num::wrapping_add_usize(self.messages, 1);
-            next.replies = digest(self.replies, reply_in(room));
-            next.marks = digest(self.marks, &[room[2], room[6], room[7]]);
-            return next;
+    // One feed of a port that is not done.
+    fn advance(&mut self, bench: &mut Bench, port: u8, s: &[u8]) {
+        if self.done {
+            return;
         }
-        next.done = fed.number != 1 || self.end == length;
-        next.end = piece_end(self.end, self.size, length);
-        next
+        let mut room = [0xEEu8; Port::REPLY];
+        let piece = s.get(self.taken..self.end).unwrap_or(&[]);
+        let fed = bench.feed(port, piece, &mut room);
+        self.count(&fed, &room, s.len());
+    }
+
+    fn count(&mut self, fed: &Fed, room: &[u8; 166], length: usize) {
+        self.taken = self.taken.wrapping_add(fed.taken);
+        self.skipped = self.skipped.wrapping_add(fed.skipped);
+        if fed.number == 0 {
+            self.messages = self.messages.wrapping_add(1);
+            self.replies = digest(self.replies, reply_in(room));
+            self.marks = digest(self.marks, &[room[2], room[6], room[7]]);
+            return;
+        }
+        self.done = fed.number != 1 || self.end == length;
+        // where the next piece ends
+        self.end = self.end.wrapping_add(self.size).min(length);
     }
 }
 
-// Where the piece after one that ends at `from` ends.
-fn piece_end(from: usize, size: usize, length: usize) -> usize {
-    let end = std::num::wrapping_add_usize(from, size);
-    if end < length { end } else { length }
-}
-
+// Reduced by a prime of 32 bits at each step, so that the next digest fits.
 fn digest(from: u64, s: &[u8]) -> u64 {
-    let mut d = from;
-    let mut i = 0;
-    while i < s.len() {
-        d = mixed(d, s[i]);
-        i += 1;
-    }
-    d
-}
-
-// Reduced by a prime of 32 bits first, so that the next digest fits.
-fn mixed(d: u64, b: u8) -> u64 {
-    (d % 4294967291) * 257 + b as u64 + 1
+    s.iter()
+        .fold(from, |d, b| (d % 4294967291) * 257 + u64::from(*b) + 1)
 }

@@ -1,231 +1,145 @@
 // Lines, words, numbers and bytes as a script writes them.
-ghost use Rattle.std.specs.Prelude.{◌≤◌, length};
+use std::io;
 
 // The most bytes that one word of a script may stand for.
 pub const MOST: usize = 1024;
 
+// Why a line is not run to its end.
 #[derive(Drop)]
-pub enum Number {
-    Value(usize),
-    Bad,
+pub enum Fault {
+    BadLine,
+    UnknownLine,
+    Unwritten(io::Error),
 }
 
-#[derive(Drop)]
-pub enum Octet {
-    Value(u8),
-    Bad,
+impl From<io::Error> for Fault {
+    fn from(e: io::Error) -> Fault {
+        Fault::Unwritten(e)
+    }
 }
 
-// Where `b` stands first from `from` on: at the end where it does not.
-pub(crate) fn find(s: &[u8], b: u8, from: usize) -> usize
-    requires { from ≤ length s.now }
-    ensures { (from ≤ result) × (result ≤ length s.now) }
-{
-    let mut i = from;
-    while i < s.len() {
-        if s[i] == b {
-            return i;
-        }
-        i += 1;
-    }
-    i
-}
+// What is still to be read of a line.
+#[derive(Clone, Copy)]
+pub struct Words<'a>(pub &'a [u8]);
 
-pub(crate) fn first_word(s: &[u8]) -> &[u8] {
-    let e = find(s, b' ', 0);
-    &s[0..e]
-}
+impl<'a> Words<'a> {
+    // The first word; what follows its blank is left.
+    pub(crate) fn word(&mut self) -> &'a [u8] {
+        let all = self.0;
+        let end = all.iter().position(|b| *b == b' ').unwrap_or(all.len());
+        self.0 = all.get(end + 1..).unwrap_or(&[]);
+        &all[..end]
+    }
 
-// What follows the first word and its blank.
-pub(crate) fn other_words(s: &[u8]) -> &[u8] {
-    let e = find(s, b' ', 0);
-    if e == s.len() {
-        return &s[..0];
+    // All that is left, which has to be one word: no number, and no bytes, have a blank.
+    pub(crate) fn last(self) -> &'a [u8] {
+        self.0
     }
-    let start = e + 1;
-    &s[start..]
-}
-
-pub(crate) fn same(a: &[u8], b: &[u8]) -> bool {
-    if a.len() != b.len() {
-        return false;
-    }
-    let mut i = 0;
-    while i < a.len() {
-        if a[i] != b[i] {
-            return false;
-        }
-        i += 1;
-    }
-    true
-}
-
-// The first `n` bytes, all where there are fewer: in a caller's proof nothing is left to show.
-pub(crate) fn prefix(s: &[u8], n: usize) -> &[u8] {
-    if s.len() < n {
-        return s;
-    }
-    &s[0..n]
-}
-
-// The bytes from..to, none where there are no such.
-pub(crate) fn part(s: &[u8], from: usize, to: usize) -> &[u8] {
-    if to > s.len() {
-        return &s[..0];
-    }
-    if from > to {
-        return &s[..0];
-    }
-    &s[from..to]
 }
 
 // A decimal number of at most ten digits, but for zeros in front.
-pub(crate) fn read_decimal(s: &[u8]) -> Number {
-    if s.len() == 0 {
-        return Number::Bad;
-    }
-    let mut value = 0;
-    let mut i = 0;
-    while i < s.len() {
-        let Number::Value(more) = with_digit(value, s[i]) else {
-            return Number::Bad;
-        };
-        value = more;
-        i += 1;
-    }
-    Number::Value(value)
+pub(crate) fn decimal(word: &[u8]) -> Result<usize, Fault> {
+    digits(word).ok_or(Fault::BadLine)
 }
 
 // A decimal number of one byte.
-pub(crate) fn read_small(s: &[u8]) -> Octet {
-    let Number::Value(n) = read_decimal(s) else {
-        return Octet::Bad;
-    };
-    if n > 255 {
-        return Octet::Bad;
-    }
-    Octet::Value(n as u8)
+pub(crate) fn small(word: &[u8]) -> Result<u8, Fault> {
+    u8::try_from(decimal(word)?).map_err(|_| Fault::BadLine)
 }
 
-fn with_digit(value: usize, b: u8) -> Number {
-    let d = digit_value(b);
-    if d > 9 {
-        return Number::Bad;
-    }
-    if value > 999_999_999 {
-        return Number::Bad;
-    }
-    Number::Value(10 * value + d as usize)
+// A decimal number of four bytes.
+pub(crate) fn wide(word: &[u8]) -> Result<u32, Fault> {
+    u32::try_from(decimal(word)?).map_err(|_| Fault::BadLine)
 }
 
-// 0 to 15, or 16 where `b` is no digit.
-fn digit_value(b: u8) -> u8 {
-    match b {
-        b'0'..=b'9' => b - b'0',
-        b'A'..=b'F' => b - b'A' + 10,
-        b'a'..=b'f' => b - b'a' + 10,
-        _ => 16,
+// One of the two ports.
+pub(crate) fn port(word: &[u8]) -> Result<u8, Fault> {
+    match small(word)? {
+        number @ 0..=1 => Ok(number),
+        _ => Err(Fault::BadLine),
     }
-}
-
-fn octet_of(high: u8, low: u8) -> Octet {
-    let h = digit_value(high);
-    let l = digit_value(low);
-    if h > 15 {
-        return Octet::Bad;
-    }
-    if l > 15 {
-        return Octet::Bad;
-    }
-    Octet::Value(16 * h + l)
-}
-
-// The byte whose two digits stand at `at`.
-fn octet_at(s: &[u8], at: usize) -> Octet {
-    if s.len() < 2 {
-        return Octet::Bad;
-    }
-    if at > s.len() - 2 {
-        return Octet::Bad;
-    }
-    octet_of(s[at], s[at + 1])
 }
 
 // A word of two hex digits.
-pub(crate) fn read_octet(s: &[u8]) -> Octet {
-    if s.len() != 2 {
-        return Octet::Bad;
-    }
-    octet_at(s, 0)
+pub(crate) fn octet(word: &[u8]) -> Result<u8, Fault> {
+    pair(word).ok_or(Fault::BadLine)
 }
 
-// Puts the bytes that `s` writes to the front of `room` and answers how many there are.
-pub(crate) fn read_bytes(s: &[u8], room: &mut [u8]) -> Number {
-    if same(s, b"-") {
-        return Number::Value(0);
-    }
-    let mut n = 0;
-    let mut at = 0;
-    while at <= s.len() {
-        let e = find(s, b'+', at);
-        let Number::Value(more) = piece(&s[at..e], room, n) else {
-            return Number::Bad;
-        };
-        n = more;
-        at = e + 1;
-    }
-    Number::Value(n)
+// The bytes that the word writes, which are put to the front of `room`.
+pub(crate) fn bytes<'a>(word: &[u8], room: &'a mut [u8]) -> Result<&'a [u8], Fault> {
+    let n = put_bytes(word, room).ok_or(Fault::BadLine)?;
+    room.get(..n).ok_or(Fault::BadLine)
 }
 
-// Puts one piece of such bytes to `room` from `n` on, and answers where it ends.
-fn piece(s: &[u8], room: &mut [u8], n: usize) -> Number {
-    if s.len() < 2 {
-        return Number::Bad;
+// The front of an array, which a call is given as if it ended there.
+pub(crate) fn front(array: &mut [u8], n: usize) -> Result<&mut [u8], Fault> {
+    array.get_mut(..n).ok_or(Fault::BadLine)
+}
+
+fn digits(s: &[u8]) -> Option<usize> {
+    if s.is_empty() {
+        return None;
     }
-    if s.len() == 2 {
-        return hex_digits(s, room, n);
+    let mut value = 0;
+    for b in s {
+        value = with_digit(value, *b)?;
     }
-    if s[2] != b'*' {
-        return hex_digits(s, room, n);
+    Some(value)
+}
+
+fn with_digit(value: usize, b: u8) -> Option<usize> {
+    if value > 999_999_999 {
+        return None;
     }
-    let Octet::Value(b) = octet_at(s, 0) else {
-        return Number::Bad;
+    let d = (b as char).to_digit(10)?;
+    Some(10 * value + d as usize)
+}
+
+fn pair(s: &[u8]) -> Option<u8> {
+    let [high, low] = s else {
+        return None;
     };
-    let Number::Value(count) = read_decimal(&s[3..]) else {
-        return Number::Bad;
-    };
-    repeated(b, count, room, n)
+    octet_of(*high, *low)
 }
 
-fn hex_digits(s: &[u8], room: &mut [u8], from: usize) -> Number {
-    let mut n = from;
-    let mut i = 0;
-    while i < s.len() {
-        let Octet::Value(b) = octet_at(s, i) else {
-            return Number::Bad;
-        };
-        if n >= room.len() {
-            return Number::Bad;
+fn octet_of(high: u8, low: u8) -> Option<u8> {
+    let h = (high as char).to_digit(16)?;
+    let l = (low as char).to_digit(16)?;
+    Some((16 * h + l) as u8)
+}
+
+// Pieces with a `+` between them; a `-` alone for no bytes. It answers how many bytes there are.
+fn put_bytes(s: &[u8], room: &mut [u8]) -> Option<usize> {
+    if let b"-" = s {
+        return Some(0);
+    }
+    let mut n = 0usize;
+    for piece in s.split(|b| *b == b'+') {
+        n = n.checked_add(put_piece(piece, room.get_mut(n..)?)?)?;
+    }
+    Some(n)
+}
+
+// Hex digits, or those of one byte, a `*` and how often it stands there.
+fn put_piece(s: &[u8], room: &mut [u8]) -> Option<usize> {
+    match s {
+        [] | [_] => None,
+        [high, low, b'*', count @ ..] => {
+            let n = digits(count)?;
+            room.get_mut(..n)?.fill(octet_of(*high, *low)?);
+            Some(n)
         }
-        room[n] = b;
-        n += 1;
-        i += 2;
+        _ => put_digits(s, room),
     }
-    Number::Value(n)
 }
 
-fn repeated(b: u8, count: usize, room: &mut [u8], from: usize) -> Number {
-    if room.len() < from {
-        return Number::Bad;
+fn put_digits(s: &[u8], room: &mut [u8]) -> Option<usize> {
+    if s.len() % 2 != 0 {
+        return None;
     }
-    if room.len() - from < count {
-        return Number::Bad;
+    let n = s.len() / 2;
+    for (b, two) in room.get_mut(..n)?.iter_mut().zip(s.chunks_exact(2)) {
+        *b = pair(two)?;
     }
-    let end = from + count;
-    let mut n = from;
-    while n < end {
-        room[n] = b;
-        n += 1;
-    }
-    Number::Value(end)
+    Some(n)
 }

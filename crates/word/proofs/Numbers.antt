@@ -1,41 +1,10 @@
--- Big-endian numbers: the number of a few bytes, and both round trips.
-use Prim.Native.Nat.{ℕ, ◌/◌, ◌%◌, ◌≤◌, ◌<◌}
+-- Big-endian numbers: both round trips, and std's words for the same bytes.
+use Prim.Native.Nat.{ℕ, ◌/◌, ◌%◌, ◌<◌}
 use native.Mathlib.Omega.{arith}
 use mathlib.Core.Path.{◌≡◌, refl}
-use mathlib.Core.List.{List, [], ◌∷◌}
-use lib.ListN.{length, get_or, take}
+use mathlib.Core.List.{[], ◌∷◌}
+use Rattle.std.specs.Int.{w32, to_be_bytes}
 use Rattle.word.specs.Word.{number, word, word_bytes}
-
--- ---- by the number of bytes, from the bytes that were read
-
-pub number-none : (b : List ℕ) → length b ≡ 0 → 0 ≡ number (take 4 b)
-number-none [] e = refl
-number-none (x ∷ b) e = absurd (omega arith)
-
-pub number_one : (b : List ℕ) → length b ≡ 1 → (r : ℕ) → r ≡ get_or b 0 0 → r ≡ number (take 4 b)
-number_one [] e r p = absurd (omega arith)
-number_one (x ∷ []) e r p = omega arith
-number_one (x ∷ y ∷ b) e r p = absurd (omega arith)
-
-pub number_two : (b : List ℕ) → length b ≡ 2 → (r : ℕ) → r ≡ word 0 0 (get_or b 0 0) (get_or b 1 0) → r ≡ number (take 4 b)
-number_two [] e r p = absurd (omega arith)
-number_two (x ∷ []) e r p = absurd (omega arith)
-number_two (x ∷ y ∷ []) e r p = omega arith
-number_two (x ∷ y ∷ z ∷ b) e r p = absurd (omega arith)
-
-pub number_three : (b : List ℕ) → length b ≡ 3 → (r : ℕ) → r ≡ word 0 (get_or b 0 0) (get_or b 1 0) (get_or b 2 0) → r ≡ number (take 4 b)
-number_three [] e r p = absurd (omega arith)
-number_three (x ∷ []) e r p = absurd (omega arith)
-number_three (x ∷ y ∷ []) e r p = absurd (omega arith)
-number_three (x ∷ y ∷ z ∷ []) e r p = omega arith
-number_three (x ∷ y ∷ z ∷ u ∷ b) e r p = absurd (omega arith)
-
-pub number_four : (b : List ℕ) → 4 ≤ length b → (r : ℕ) → r ≡ word (get_or b 0 0) (get_or b 1 0) (get_or b 2 0) (get_or b 3 0) → r ≡ number (take 4 b)
-number_four [] e r p = absurd (omega arith)
-number_four (x ∷ []) e r p = absurd (omega arith)
-number_four (x ∷ y ∷ []) e r p = absurd (omega arith)
-number_four (x ∷ y ∷ z ∷ []) e r p = absurd (omega arith)
-number_four (x ∷ y ∷ z ∷ u ∷ b) e r p = omega arith
 
 -- ---- both round trips
 
@@ -50,3 +19,8 @@ bytes_back a b c d ha hb hc hd =
     let e1 : w / 256 % 256 ≡ c = omega arith in
     let e0 : w % 256 ≡ d = omega arith in
     rw (e3, e2, e1, e0)
+
+-- ---- std's to_be_bytes of a u32
+
+pub be_bytes : (w : ℕ) → to_be_bytes w32 w ≡ word_bytes w
+be_bytes w = refl

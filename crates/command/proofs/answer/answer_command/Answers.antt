@@ -11,7 +11,7 @@ returns-then-whole_error-ne0 c = search (placed_row, command_refused, rules)
 pub answer_fields-requires : goal.answer_fields-requires
 answer_fields-requires c = let a = c.args in
     let pre = c.requires in
-    let t = fields_there a.held.now a.chunk.now a.from a.to a.kind pre.0 pre.2 _ c.command_error-whole_error.ensures c.if-whole_error-ne0.false in
+    let t = fields_there a.payload.unread.held.now a.payload.unread.chunk.now a.payload.from a.payload.to a.kind pre.0.0 pre.0.1 _ c.command_error-whole_error.ensures c.if-whole_error-ne0.false in
     (pre.0, pre.1, t.0, t.1, omega arith)
 
 pub returns : goal.returns

@@ -5,9 +5,9 @@ use Rattle.command.proofs.command.command_at.Goals as goal
 
 pub returns : goal.returns
 returns c = let a = c.args in
-    command_read (a.held.now ++ a.chunk.now) a.kind a.at _ _ _ _ _ _ _ _ _
-    c.byte_over-code.ensures
-    c.byte_over-size.ensures
+    command_read (a.unread.held.now ++ a.unread.chunk.now) a.kind a.at _ _ _ _ _ _ _ _ _
+    c.byte-code.ensures
+    c.byte-size.ensures
     c.count_of-n.ensures.0
     c.data_byte-function.ensures
     c.data_byte-first.ensures

@@ -12,8 +12,8 @@ returns-then-kind-eq1 c = search (subject_not_ping, rules)
 pub returns-then-kind-ne2 : goal.returns-then-kind-ne2
 returns-then-kind-ne2 c = search (subject_no_kind, rules)
 
-pub returns-in-Setting : goal.returns-in-Setting
-returns-in-Setting c = search (subject_setting, rules)
+pub returns-in-Some : goal.returns-in-Some
+returns-in-Some c = search (subject_setting, rules)
 
-pub returns-in-Nothing : goal.returns-in-Nothing
-returns-in-Nothing c = search (subject_nothing, rules)
+pub returns-in-None : goal.returns-in-None
+returns-in-None c = search (subject_nothing, rules)

@@ -6,8 +6,8 @@ use Rattle.command.proofs.fields.command_error.Goals as goal
 pub returns-then-not-is_kind : goal.returns-then-not-is_kind
 returns-then-not-is_kind c = search (whole_other, rules)
 
-pub returns-then-from-to : goal.returns-then-from-to
-returns-then-from-to c = search (whole_empty, rules)
+pub returns-then-payload : goal.returns-then-payload
+returns-then-payload c = search (whole_empty, rules)
 
 pub returns-then-fields_fit : goal.returns-then-fields_fit
 returns-then-fields_fit c = search (whole_fit, rules)

@@ -9,21 +9,21 @@ use Rattle.command.proofs.fields.fields_fit.Goals as goal
 
 pub loop-at-init : goal.loop-at-init
 loop-at-init c = let a = c.args in
-    let row = a.held.now ++ a.chunk.now in
-    let fits : a.to ≤ length row = omega (arith, length-append a.held.now a.chunk.now) in
-    (omega arith, omega arith, fit_start row a.to fits a.from (omega arith))
+    let row = a.payload.unread.held.now ++ a.payload.unread.chunk.now in
+    let fits : a.payload.to ≤ length row = omega (arith, length-append a.payload.unread.held.now a.payload.unread.chunk.now) in
+    (omega arith, omega arith, fit_start row a.payload.to fits a.payload.from (omega arith))
 
 pub returns-then-n-eq16 : goal.returns-then-n-eq16
 returns-then-n-eq16 c = let a = c.args in
-    let row = a.held.now ++ a.chunk.now in
-    let fits : a.to ≤ length row = omega (arith, length-append a.held.now a.chunk.now) in
+    let row = a.payload.unread.held.now ++ a.payload.unread.chunk.now in
+    let fits : a.payload.to ≤ length row = omega (arith, length-append a.payload.unread.held.now a.payload.unread.chunk.now) in
     let l = c.loop-at in
-    fit_many row a.to fits l.n l.at _ c.loop-at-test.true c.if-n-eq16.true l.invariant.2
+    fit_many row a.payload.to fits l.n l.at _ c.loop-at-test.true c.if-n-eq16.true l.invariant.2
 
 pub loop-at-preserved : goal.loop-at-preserved
 loop-at-preserved c = let a = c.args in
-    let row = a.held.now ++ a.chunk.now in
-    let fits : a.to ≤ length row = omega (arith, length-append a.held.now a.chunk.now) in
+    let row = a.payload.unread.held.now ++ a.payload.unread.chunk.now in
+    let fits : a.payload.to ≤ length row = omega (arith, length-append a.payload.unread.held.now a.payload.unread.chunk.now) in
     let l = c.loop-at in
-    let e = c.count_of.ensures.0 ∙ c.byte_over.ensures in
-    (omega arith, omega arith, sym (fit_more row a.to fits l.n l.at c.count_of.result c.loop-at-test.true e) ∙ l.invariant.2)
+    let e = c.count_of.ensures.0 ∙ c.byte.ensures in
+    (omega arith, omega arith, sym (fit_more row a.payload.to fits l.n l.at c.count_of.result c.loop-at-test.true e) ∙ l.invariant.2)

@@ -6,8 +6,8 @@ use Rattle.command.proofs.number.number_error.Goals as goal
 pub returns-then-rights : goal.returns-then-rights
 returns-then-rights c = search (number_not_allowed, rules)
 
-pub returns-then-to-lt9 : goal.returns-then-to-lt9
-returns-then-to-lt9 c = search (number_short, rules)
+pub returns-then-len-lt5 : goal.returns-then-len-lt5
+returns-then-len-lt5 c = search (number_short, rules)
 
 pub returns-then-is_fresh : goal.returns-then-is_fresh
 returns-then-is_fresh c = search (number-fresh, rules)

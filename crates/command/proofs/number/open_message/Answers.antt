@@ -1,9 +1,8 @@
 -- `command::number::open_message` meets its contract: damaged, no number, a number that is refused, and one that is spent.
 use native.Mathlib.Omega.{arith}
-use mathlib.Core.List.{◌++◌}
-use lib.ListN.{take, drop}
+use Rattle.command.specs.Payload.{bytes_in}
 use Rattle.command.specs.Answer.{number_on}
-use Rattle.command.proofs.Spends.{number_there, inner_kind_lem, open_damaged, open_plain, open_refused, open_spent}
+use Rattle.command.proofs.Spends.{number_there, open_damaged, open_plain, open_refused, open_spent}
 use borrow.Author.Rules.{rules}
 use Rattle.std.proofs.lemmas.Bool.{not_from_true}
 use Rattle.command.proofs.number.open_message.Goals as goal
@@ -18,13 +17,10 @@ pub returns-then-error-ne0 : goal.returns-then-error-ne0
 returns-then-error-ne0 c = search (open_refused, rules)
 
 pub number_in-requires : goal.number_in-requires
-number_in-requires c = let a = c.args in
-    let t = number_there a.held.now a.chunk.now a.to a.rights (number_on a.page.now) _ c.number_error-error.ensures c.if-error-ne0.false c.requires.1 in
-    (omega arith, omega arith)
+number_in-requires c = let t = number_there _ c.args.rights (number_on c.args.page.now) _ c.number_error-error.ensures c.if-error-ne0.false in
+    omega arith
 
 pub returns : goal.returns
 returns c = let a = c.args in
-    let error = c.number_error-error.ensures in
-    let t = number_there a.held.now a.chunk.now a.to a.rights (number_on a.page.now) _ error c.if-error-ne0.false c.requires.1 in
-    open_spent a.rights a.good a.kind (drop 4 (take a.to (a.held.now ++ a.chunk.now))) a.page.now (not_from_true _ c.if-not-good.false) c.if-kind-ne124.false _ error c.if-error-ne0.false _ c.number_in.ensures _ c.put_last_number.ensures _
-    (inner_kind_lem a.held.now a.chunk.now a.to _ t.0 c.byte_over.ensures)
+    open_spent a.rights a.good a.kind (bytes_in a.payload) a.page.now (not_from_true _ c.if-not-good.false) c.if-kind-ne124.false _ c.number_error-error.ensures c.if-error-ne0.false _ c.number_in.ensures _ c.put_last_number.ensures _
+    c.byte.ensures

@@ -10,7 +10,7 @@ returns-then-s-at c = search (front-none, rules)
 pub sums_right-requires : goal.sums_right-requires
 sums_right-requires c = let s = c.args.s.now in
     let at = c.args.at in
-    complete_within s at _ (opening_here s at _ c.opening_over.ensures) _ c.in-Complete.is c.if-s-at.false
+    complete_within s at _ (opening_here s at _ _ c.from.ensures c.opening.ensures) _ c.in-Complete.is c.if-s-at.false
 
 pub returns-in-NoMessage : goal.returns-in-NoMessage
 returns-in-NoMessage c = search (front_no_message, opening_here, rules)

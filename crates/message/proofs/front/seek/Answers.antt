@@ -14,14 +14,14 @@ past_skips-at-requires c = let h = there c in omega arith
 pub loop-at-preserved-in-Skip : goal.loop-at-preserved-in-Skip
 loop-at-preserved-in-Skip c = (search rules, search (seek_passes_here, skip_passed, skip_there, rules))
 
-pub returns-then-s-at : goal.returns-then-s-at
-returns-then-s-at c = search (nothing_left, rules)
+pub returns-in-Undecided-2 : goal.returns-in-Undecided-2
+returns-in-Undecided-2 c = search (nothing_left, rules)
 
 pub loop-at-preserved : goal.loop-at-preserved
 loop-at-preserved c = (search rules, search (undecided_passed, rules))
 
-pub returns-else-ended : goal.returns-else-ended
-returns-else-ended c = search (undecided_stops, rules)
+pub returns-in-Undecided-2-2 : goal.returns-in-Undecided-2-2
+returns-in-Undecided-2-2 c = search (undecided_stops, rules)
 
 pub returns-in-Whole : goal.returns-in-Whole
 returns-in-Whole c = search (message_found, whole_there, rules)

@@ -1,6 +1,20 @@
--- `message::skips::past_blocks` meets its contract. The invariant: what is before `i` is skipped.
-use Rattle.message.proofs.Skipped.{skips_block}
+-- `message::skips::past_blocks` meets its contract.
+use Rattle.std.proofs.Common.{◌≡◌, ◌<◌, ℕ, false, eqb, length, get_or, ◌∙◌, rules}
+use Rattle.message.proofs.Skipped.{Chunk, chunk_here, skips_block}
 use Rattle.message.proofs.skips.past_blocks.Goals as goal
 
-pub loop-i-preserved : goal.loop-i-preserved
-loop-i-preserved c = skips_block c.args.s.now _ c.loop-i.i c.loop-i-test.true _ c.any_a5.ensures c.if-any_a5.false c.loop-i.invariant
+other : (c : goal.Else-any) (k : ℕ) → k < length c.in-Some.block.now → eqb (get_or c.in-Some.block.now k 0) 0xA5 ≡ false
+other c k h = let p = c.any.ensures.none c.if-any.false k h in search rules
+
+chunk : (c : goal.Else-any) → Chunk c.args.s.now (c.loop-block.i) c.in-Some.block.now c.next.new.self.rest.now
+chunk c =
+    let h = c.in-Some.ensures.steps in
+    let i = c.loop-block.invariant in
+    chunk_here _ _ _ _ (i.left ∙ h.1.0) (h.1.1 ∙ i.sixteen)
+
+pub overflow_add-i : goal.overflow_add-i
+overflow_add-i c = let room = (chunk c).room in search rules
+
+pub loop-block-preserved : goal.loop-block-preserved
+loop-block-preserved c =
+    record { sixteen = c.in-Some.ensures.steps.0 ∙ c.loop-block.invariant.sixteen; left = (chunk c).behind; skipped = skips_block (chunk c) (other c) c.loop-block.invariant.skipped }

@@ -1,7 +1,14 @@
--- `message::skips::past_run` meets its contract. The invariant: two A5 stand at `at`, and what is before it is skipped.
-use Rattle.std.proofs.Common.{rules}
-use Rattle.message.proofs.Skipped.{run_more}
+-- `message::skips::past_run` meets its contract.
+use Rattle.std.proofs.Common.{ℕ, ◌+◌, ◌-◌, Bool, not, eqb, List, length, take, drop, rules, tests}
+use Rattle.std.proofs.lemmas.Iterator.{YieldsList-from_slice}
+use Rattle.std.proofs.lemmas.Iterator.Search.{position_from_yields_List}
+use Rattle.message.proofs.Skipped.{first_or_len, run_to}
 use Rattle.message.proofs.skips.past_run.Goals as goal
 
-pub loop-at-preserved : goal.loop-at-preserved
-loop-at-preserved c = search (run_more, rules)
+pub returns : goal.returns
+returns c =
+    let i : ℕ = c.past_run_blocks-at.result in
+    let rest : List ℕ = take (length c.args.s.now - (i + 2)) (drop (i + 2) c.args.s.now) in
+    let test : ℕ → Bool = λ b. not (eqb b 0xA5) in
+    let found = position_from_yields_List test _ _ c.position.result c.position.ensures.ran (YieldsList-from_slice _ c.iter.ensures.rest) (λ x b q k. search (rules, tests)) in
+    run_to c.args.s.now c.args.from i c.unwrap_or.result (first_or_len test rest c.position.result c.unwrap_or.result found c.unwrap_or.ensures) c.past_run_blocks-at.ensures

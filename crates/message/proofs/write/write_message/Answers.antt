@@ -1,13 +1,11 @@
--- `message::write::write_message` meets its contract: two refusals, and the message.
-use Rattle.message.proofs.Writes.{refused_26, refused_18, written}
+-- `message::write::write_message` meets its contract: a refusal of the size, and the message.
 use Rattle.std.proofs.Common.{rules}
+use Rattle.std.proofs.lemmas.Result.{err_from_is_err_and}
+use Rattle.message.proofs.Writes.{refused, written}
 use Rattle.message.proofs.write.write_message.Goals as goal
 
-pub returns-then-n-gt255 : goal.returns-then-n-gt255
-returns-then-n-gt255 c = search (refused_26, rules)
-
-pub returns-then-room-size : goal.returns-then-room-size
-returns-then-room-size c = search (refused_18, rules)
+pub returns-in_err-size : goal.returns-in_err-size
+returns-in_err-size c = let p = err_from_is_err_and c.from_residual.result c.from_residual.ensures.1 in rw (p.1, p.2) (search (refused, rules))
 
 pub returns : goal.returns
 returns c = search (written, rules)

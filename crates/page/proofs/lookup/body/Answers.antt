@@ -3,11 +3,11 @@ use borrow.Author.Rules.{rules}
 use Rattle.page.proofs.Lookups.{body_saved, body_factory, body_nowhere}
 use Rattle.page.proofs.lookup.body.Goals as goal
 
-pub returns-in-At : goal.returns-in-At
-returns-in-At c = search (body_saved, rules)
+pub returns-in-Some : goal.returns-in-Some
+returns-in-Some c = search (body_saved, rules)
 
-pub returns-in-At-f : goal.returns-in-At-f
-returns-in-At-f c = search (body_factory, rules)
+pub returns-in-Some-find_entry : goal.returns-in-Some-find_entry
+returns-in-Some-find_entry c = search (body_factory, rules)
 
 pub returns : goal.returns
 returns c = search (body_nowhere, rules)

@@ -1,13 +1,13 @@
--- `page::put::put` meets its contract: a page of another size, values that are not storable, and the page filled anew.
+-- `page::put::put` meets its contract: a page of another size, the page filled anew, and values that are not storable.
 use Rattle.page.proofs.Puts.{put_19, put_20, put_done}
 use borrow.Author.Rules.{rules}
 use Rattle.page.proofs.put.put.Goals as goal
 
-pub returns-then-page-ne64 : goal.returns-then-page-ne64
-returns-then-page-ne64 c = search (put_19, rules)
+pub returns-in_default : goal.returns-in_default
+returns-in_default c = search (put_19, rules)
 
-pub returns-then-not-all_storable : goal.returns-then-not-all_storable
-returns-then-not-all_storable c = search (put_20, rules)
+pub returns-then-all_storable : goal.returns-then-all_storable
+returns-then-all_storable c = search (put_done, rules)
 
-pub returns : goal.returns
-returns c = search (put_done, rules)
+pub returns-else-all_storable : goal.returns-else-all_storable
+returns-else-all_storable c = search (put_20, rules)

@@ -1,40 +1,52 @@
--- `page::sound::entries_right` meets its contract. The invariant: what the walk over the rest of the entries tells is what the whole walk
--- tells. The entries end by byte 13, and the bodies by byte 23, since codes ascend.
-use Prim.Native.Nat.{◌≤◌}
-use native.Mathlib.Omega.{arith}
-use borrow.Author.Rules.{rules}
-use Rattle.page.proofs.Walks.{none-counted, many_counted, walk_first, entry_wrong, entry_passed, size_small, left_after, rest_not, rest_decides, far_not, far_decides}
+-- `page::sound::entries_right` meets its contract: too few or too many entries, one that is not right, and FF behind the last body.
+use Rattle.std.proofs.Common.{rules, arith, ◌∙◌, refl}
+use Rattle.page.proofs.Walks.{none_counted, many_counted, walk_first, entry_wrong, entry_passed, far_not, far_decides, left_after}
 use Rattle.page.proofs.sound.entries_right.Goals as goal
+use Rattle.page.proofs.sound.entries_right.Goals.{then-n-eq0-via-then-n-eq0, then-n-eq0-via-else-n-eq0+then-n-gt4}
 
 pub returns-then-n-eq0 : goal.returns-then-n-eq0
-returns-then-n-eq0 c = search (none-counted, rules)
+returns-then-n-eq0 c =
+    elim c.then-n-eq0.branch [
+      | then-n-eq0-via-then-n-eq0 w ↦ search (none_counted, rules)
+      | then-n-eq0-via-else-n-eq0+then-n-gt4 w ↦ search (many_counted, rules)
+    ]
 
-pub returns-then-n-gt4 : goal.returns-then-n-gt4
-returns-then-n-gt4 c = search (many_counted, rules)
+pub loop-k-init : goal.loop-k-init
+loop-k-init c = (omega arith, search (walk_first, rules))
 
-pub loop-left-init : goal.loop-left-init
-loop-left-init c = search (walk_first, rules)
+pub returns-in_default : goal.returns-in_default
+returns-in_default c = search (entry_wrong, rules)
 
-pub returns-then-size-eq0 : goal.returns-then-size-eq0
-returns-then-size-eq0 c = search (entry_wrong, rules)
-
-pub overflow_add-start-in-loop-left : goal.overflow_add-start-in-loop-left
-overflow_add-start-in-loop-left c = let z : c.entry_size-size.result ≤ 4 = search (size_small, rules) in
+pub overflow_add-start-in-loop-k : goal.overflow_add-start-in-loop-k
+overflow_add-start-in-loop-k c =
+    let i = c.loop-k.invariant.0 in
+    let h = left_after _ _ _ _ c.in-Some.ensures refl in
     omega arith
 
-pub loop-left-preserved : goal.loop-left-preserved
-loop-left-preserved c = let z : c.entry_size-size.result ≤ 4 = search (size_small, rules) in
-    let h = left_after _ _ _ _ _ c.entry_size-size.ensures c.if-size-eq0.false in
-    (omega arith, omega arith, omega arith, search (entry_passed, rules))
+pub loop-k-preserved : goal.loop-k-preserved
+loop-k-preserved c =
+    let i = c.loop-k.invariant.0 in
+    let h = left_after _ _ _ _ c.in-Some.ensures refl in
+    (omega arith, search (entry_passed, rules))
 
-pub returns-then-not-blank_from : goal.returns-then-not-blank_from
-returns-then-not-blank_from c = search (rest_not, rules)
+pub returns-then-is_blank : goal.returns-then-is_blank
+returns-then-is_blank c =
+    far_decides c.args.page.now _ c.loop-k.k c.loop-k.start c.loop-k.last c.loop-k.invariant.1 (omega arith) (search rules) 16 (omega arith) (omega arith)
+    c.is_blank.ensures c.if-is_blank.true c.is_blank-then-is_blank.ensures
 
-pub returns-then-start-le16 : goal.returns-then-start-le16
-returns-then-start-le16 c = search (rest_decides, rules)
+pub returns-else-is_blank : goal.returns-else-is_blank
+returns-else-is_blank c =
+    c.if-is_blank.false ∙ far_not c.args.page.now _ c.loop-k.k c.loop-k.start c.loop-k.last c.loop-k.invariant.1 (omega arith) (search rules) 16 (omega arith) (omega arith)
+    c.is_blank.ensures c.if-is_blank.false
 
-pub returns-then-not-blank_from-2 : goal.returns-then-not-blank_from-2
-returns-then-not-blank_from-2 c = search (far_not, rules)
+pub returns-then-is_blank-2 : goal.returns-then-is_blank-2
+returns-then-is_blank-2 c =
+    let i = c.loop-k.invariant.0 in
+    far_decides c.args.page.now _ c.loop-k.k c.loop-k.start c.loop-k.last c.loop-k.invariant.1 (omega arith) (search rules) 24 (omega arith) (omega arith)
+    c.is_blank-else-start-le16.ensures c.if-is_blank-2.true c.is_blank-then-is_blank-2.ensures
 
-pub returns : goal.returns
-returns c = search (far_decides, rules)
+pub returns-else-is_blank-2 : goal.returns-else-is_blank-2
+returns-else-is_blank-2 c =
+    let i = c.loop-k.invariant.0 in
+    c.if-is_blank-2.false ∙ far_not c.args.page.now _ c.loop-k.k c.loop-k.start c.loop-k.last c.loop-k.invariant.1 (omega arith) (search rules) 24 (omega arith) (omega arith)
+    c.is_blank-else-start-le16.ensures c.if-is_blank-2.false

@@ -3,8 +3,8 @@ use Rattle.std.proofs.Common.{◌≡◌, ◌+◌, ◌-◌, ◌%◌, ◌≤◌, l
 use Rattle.message.proofs.Blocks as blocks
 use Rattle.message.proofs.fletcher.Sums.over_block.Given as goal
 
-abbrev pub invariant-loop-i : goal.invariant-loop-i
-invariant-loop-i l = (l.i ≤ length l.s) × (l.weight ≡ length l.s - l.i) × ((l.total + blocks.total (drop l.i l.s)) % 65536 ≡ blocks.total l.s % 65536) × ((l.weighted + blocks.weighted (drop l.i l.s)) % 65536 ≡ blocks.weighted l.s % 65536)
+abbrev pub invariant-loop-b : goal.invariant-loop-b
+invariant-loop-b l = (l.b-index ≤ length l.s) × (l.weight ≡ length l.s - l.b-index) × ((l.total + blocks.total (drop l.b-index l.s)) % 65536 ≡ blocks.total l.s % 65536) × ((l.weighted + blocks.weighted (drop l.b-index l.s)) % 65536 ≡ blocks.weighted l.s % 65536)
 
-abbrev pub decreases-loop-i : goal.decreases-loop-i
-decreases-loop-i l = length l.s - l.i
+abbrev pub decreases-loop-b : goal.decreases-loop-b
+decreases-loop-b l = length l.s - l.b-index

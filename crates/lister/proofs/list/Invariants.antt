@@ -1,5 +1,0 @@
--- `lister::list` ends: the turns are counted down.
-use Rattle.lister.proofs.list.Given as goal
-
-abbrev pub decreases-loop-turns : goal.decreases-loop-turns
-decreases-loop-turns g l = l.turns

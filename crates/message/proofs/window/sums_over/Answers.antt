@@ -1,7 +1,0 @@
--- `message::window::sums_over` meets its contract.
-use Rattle.message.proofs.Windows.{sums_straddling}
-use Rattle.std.proofs.Common.{rules}
-use Rattle.message.proofs.window.sums_over.Goals as goal
-
-pub returns : goal.returns
-returns c = search (sums_straddling, rules)

@@ -1,9 +1,0 @@
--- The rows are counted.
-use Rattle.std.proofs.Common.{◌-◌, ◌≤◌}
-use Rattle.vectors.proofs.listings.say_rows.Given as goal
-
-abbrev pub invariant-loop-row : goal.invariant-loop-row
-invariant-loop-row l = l.row ≤ 16
-
-abbrev pub decreases-loop-row : goal.decreases-loop-row
-decreases-loop-row l = 16 - l.row

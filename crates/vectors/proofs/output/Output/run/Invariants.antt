@@ -1,9 +1,0 @@
--- The bytes left fall to none.
-use Rattle.std.proofs.Common.{◌≤◌}
-use Rattle.vectors.proofs.output.Output.run.Given as goal
-
-abbrev pub invariant-loop-left : goal.invariant-loop-left
-invariant-loop-left l = l.left ≤ l.n
-
-abbrev pub decreases-loop-left : goal.decreases-loop-left
-decreases-loop-left l = l.left
