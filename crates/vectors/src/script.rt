@@ -82,18 +82,8 @@ fn run_block(block: &mut [u8], end: usize, bench: &mut Bench, out: &mut Output) 
         return Ok(end);
     };
     run_lines(&block[..last], bench, out)?;
-    move_front(block, last + 1, end);
+    block.copy_within(last + 1..end, 0);
     Ok(end - (last + 1))
-}
-
-// Moves the bytes from `from` up to `end` to the front.
-fn move_front(block: &mut [u8], from: usize, end: usize)
-    requires { (from ≤ end) × (end ≤ length block.old) }
-    ensures { length block.new ≡ length block.old }
-{
-    for i in from..end {
-        block[i - from] = block[i];
-    }
 }
 
 fn run_lines(lines: &[u8], bench: &mut Bench, out: &mut Output) -> io::Result<()> {
