@@ -2,6 +2,21 @@
 ghost use Rattle.std.specs.Prelude.{◌≡◌, ◌++◌, length, take, drop, replicate, ◌+◌, ◌-◌, ◌≤◌};
 ghost use Rattle.board.specs.Port.{padded};
 
+// Moves the `n` bytes from `from` on to the front. They never move back, so none is overwritten before it is read.
+// Kept: (a) a loop by hand. With `copy_within` the archive would call `memmove`, and README and include/ketphiroj.h promise a C firmware
+// that it calls `memcpy` and `memset` alone.
+fn move_front(bytes: &mut [u8], from: usize, n: usize)
+    requires { from + n ≤ length bytes.old }
+    ensures { bytes.new ≡ take n (drop from bytes.old) ++ drop n bytes.old }
+{
+    let mut i = 0;
+    while i < n {
+        let x = bytes[from + i];
+        bytes[i] = x;
+        i += 1;
+    }
+}
+
 // Brings the `n` bytes from `from` on of the first `held` and then the chunk to the front: those held, then those of the
 // chunk, so that no byte asks where it comes from.
 fn shift(bytes: &mut [u8; 260], held: usize, chunk: &[u8], from: usize, n: usize)
@@ -19,10 +34,10 @@ fn shift(bytes: &mut [u8; 260], held: usize, chunk: &[u8], from: usize, n: usize
     }
     let kept = held - from;
     if n <= kept {
-        bytes.copy_within(from..from + n, 0);
+        move_front(bytes, from, n);
         return;
     }
-    bytes.copy_within(from..held, 0);
+    move_front(bytes, from, kept);
     bytes[kept..n].copy_from_slice(&chunk[..n - kept]);
 }
 
