@@ -2,20 +2,7 @@
 ghost use Rattle.std.specs.Prelude.{◌≡◌, ◌++◌, length, take, drop, replicate, ◌+◌, ◌-◌, ◌≤◌};
 ghost use Rattle.board.specs.Port.{padded};
 
-// Moves the `n` bytes from `from` on to the front. They never move back, so none is overwritten before it is read.
-// Kept: (a) a loop by hand. With `copy_within` the archive would call `memmove`, and README and include/ketphiroj.h promise a C firmware
-// that it calls `memcpy` and `memset` alone.
-fn move_front(bytes: &mut [u8], from: usize, n: usize)
-    requires { from + n ≤ length bytes.old }
-    ensures { bytes.new ≡ take n (drop from bytes.old) ++ drop n bytes.old }
-{
-    let mut i = 0;
-    while i < n {
-        let x = bytes[from + i];
-        bytes[i] = x;
-        i += 1;
-    }
-}
+use message::copy_front;
 
 // Brings the `n` bytes from `from` on of the first `held` and then the chunk to the front: those held, then those of the
 // chunk, so that no byte asks where it comes from.
@@ -29,16 +16,16 @@ fn shift(bytes: &mut [u8; 260], held: usize, chunk: &[u8], from: usize, n: usize
     }
     if held <= from {
         let past = from - held;
-        bytes[..n].copy_from_slice(&chunk[past..past + n]);
+        copy_front(&chunk[past..past + n], bytes);
         return;
     }
     let kept = held - from;
     if n <= kept {
-        move_front(bytes, from, n);
+        bytes.copy_within(from..from + n, 0);
         return;
     }
-    move_front(bytes, from, kept);
-    bytes[kept..n].copy_from_slice(&chunk[..n - kept]);
+    bytes.copy_within(from..held, 0);
+    copy_front(&chunk[..n - kept], &mut bytes[kept..]);
 }
 
 // Keeps the bytes from..to of those held and then the chunk, with zeros past them.

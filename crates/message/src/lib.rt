@@ -12,7 +12,7 @@ mod whole;
 mod window;
 mod write;
 
-pub use bytes::write_bytes;
+pub use bytes::{copy_front, write_bytes};
 pub use fletcher::Sums;
 pub use front::{front_at, seek};
 pub use unread::Unread;
