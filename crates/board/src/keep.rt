@@ -16,7 +16,7 @@ fn shift(bytes: &mut [u8; 260], held: usize, chunk: &[u8], from: usize, n: usize
     }
     if held <= from {
         let past = from - held;
-        copy_front(&chunk[past..past + n], bytes);
+        copy_front(&chunk[past..past + n], &mut bytes[..n]);
         return;
     }
     let kept = held - from;
@@ -25,7 +25,7 @@ fn shift(bytes: &mut [u8; 260], held: usize, chunk: &[u8], from: usize, n: usize
         return;
     }
     bytes.copy_within(from..held, 0);
-    copy_front(&chunk[..n - kept], &mut bytes[kept..]);
+    copy_front(&chunk[..n - kept], &mut bytes[kept..n]);
 }
 
 // Keeps the bytes from..to of those held and then the chunk, with zeros past them.
