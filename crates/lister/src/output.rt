@@ -20,9 +20,13 @@ pub struct Lines {
 impl Lines {
     // The heading comes first.
     pub(crate) fn start(rt: HostRuntime) -> Self {
-        let mut block = [0u8; BLOCK];
-        let used = listing::write_heading(&mut block).unwrap_or(0);
-        Lines { rt, block, used }
+        let mut lines = Lines {
+            rt,
+            block: [0u8; BLOCK],
+            used: 0,
+        };
+        lines.used = listing::write_heading(&mut lines.block).unwrap_or(0);
+        lines
     }
 
     // Writes what is gathered. After a write that failed the listing ends: what is written later would stand in the place of what is missing.
@@ -75,7 +79,9 @@ impl Lines {
 }
 
 // The first `n` bytes, all where there are fewer: in a caller's proof nothing is left to show.
-fn prefix(s: &[u8], n: usize) -> &[u8] {
+fn prefix(s: &[u8], n: usize) -> &[u8]
+    ensures { length result.now ≤ n }
+{
     s.get(..n).unwrap_or(s)
 }
 

@@ -23,7 +23,9 @@ pub struct Output {
 }
 
 impl Output {
-    pub(crate) fn new(rt: HostRuntime) -> Self {
+    pub(crate) fn new(rt: HostRuntime) -> Self
+        ensures { result.used ≡ 0 }
+    {
         Output {
             rt,
             block: [0u8; BLOCK],
