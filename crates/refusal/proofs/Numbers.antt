@@ -1,9 +1,9 @@
 -- No refusal has the number of an answer that is done, and each comes back from its number: no two refusals have one.
 use Rattle.std.proofs.Common.{◌<◌, ◌≡◌, refl, arith}
-use Rattle.std.specs.Prelude.{Err}
+use Rattle.std.specs.Prelude.{Result, Ok, Err}
 use Rattle.refusal.specs.declared.Refusal.{Refusal}
 use Rattle.refusal.specs.declared.Refusal.TheVariants.{Port, Board, Room, PageSize, Page, NotWhole, Sums, Kind, Fields, FieldSize, Payload, NoField, Command}
-use Rattle.refusal.specs.Refusal.{refusal_number, refusal_from, answer_from}
+use Rattle.refusal.specs.Refusal.{refusal_number, number_of, refusal_from, answer_from}
 
 pub number_above : (r : Refusal) → 0 < refusal_number r
 number_above Port = omega arith
@@ -52,3 +52,8 @@ refused_back FieldSize x = refl
 refused_back Payload x = refl
 refused_back NoField x = refl
 refused_back Command x = refl
+
+-- And an answer that has its number alone.
+pub number_back : (r : Result (Unit {0}) Refusal) → answer_from (number_of r) tt ≡ r
+number_back (Ok x) = refl
+number_back (Err r) = refused_back r tt
