@@ -1,7 +1,7 @@
 -- What a flat struct stands for comes back: replies, values, fields, and the patterns of a data message.
 use Prim.Native.Nat.{ℕ, ◌<◌}
 use native.Mathlib.Omega.{arith}
-use mathlib.Core.Path.{◌≡◌, refl, ap, ◌∙◌}
+use mathlib.Core.Path.{◌≡◌, refl, ap, sym, ◌∙◌}
 use mathlib.Core.Bool.{Bool, true, false}
 use mathlib.Core.List.{List, [], ◌∷◌}
 use mathlib.Core.Option.{Option as Maybe, none, some}
@@ -10,11 +10,17 @@ use lib.Ieee.{binary32, nan_bits}
 use lib.Ieee.Bits.{of_bits-fits}
 use lib.ListN.{take, drop}
 use Rattle.word.specs.Word.{number}
-use Rattle.std.specs.Prelude.{Option, Some, None}
+use Rattle.std.specs.Prelude.{Option, Some, None, Result}
+use Rattle.refusal.specs.declared.Refusal.{Refusal}
+use Rattle.refusal.proofs.Numbers.{number_back}
+use Rattle.message.proofs.Writes.{written_back}
+use Rattle.client.specs.Reader.{ReplyAnswer, reply_of, reply_told}
+use Rattle.client.proofs.Told.{reply_back}
 use Rattle.sample.specs.declared.axes.Axes.{Axes}
 use Rattle.sample.specs.declared.reader.Sample.{Sample}
 use Rattle.sample.specs.declared.reader.Sample.TheVariants.{Acceleration, Rate, Unknown}
-use Rattle.sample.specs.Reader.{FieldAnswer}
+use Rattle.sample.specs.declared.reader.FieldRead.{FieldRead}
+use Rattle.sample.specs.Reader.{FieldAnswer, answer_of, field_told}
 use Rattle.sample.specs.Axes.{kept_on, kept_of, axes_from, axes_of, restored}
 use Rattle.sample.specs.Reader.{sample_on, sample_of, Found, reading_of, read_on, field_read}
 use Rattle.sample.specs.Theorems.{Kept32, Single}
@@ -22,9 +28,10 @@ use Rattle.sample.proofs.AxesBytes.{Bytes, take_bytes, drop_bytes}
 use Rattle.sample.proofs.Parts.{part_of_message, fields_located}
 use Rattle.sample.proofs.Patterns.{bits_back}
 use Rattle.sample.proofs.RoundTrips.{written_is_read}
+use Rattle.sample.proofs.Told.{answer_back}
 use Rattle.page.specs.Page.{is_there}
-use Rattle.capi.specs.Flat.{number_in, stored_from, flat_axes, flat_on, flat_field}
-use Rattle.capi.specs.Theorems.{field_read_from, FlatBack, FlatFieldsLocated, Pattern, PatternsBack}
+use Rattle.capi.specs.Flat.{number_in, stored_from, flat_reply, flat_axes, flat_on, flat_field}
+use Rattle.capi.specs.Theorems.{reply_from, field_read_from, FlatBack, FlatFieldsLocated, Pattern, PatternsBack}
 
 stored_back : (s : Option ℕ) → stored_from (is_there s) (number_in s) ≡ s
 stored_back None = refl
@@ -85,14 +92,30 @@ read_back : (n : ℕ) (o : Maybe Found) → ((f : Found) → o ≡ some f → By
 read_back n none h = refl
 read_back n (some f) h = found_back n f (h f refl)
 
-pub flat_back : FlatBack
+field_read_back : (m : List ℕ) (k : ℕ) → Bytes m → field_read_from (flat_field (field_read m k)) ≡ field_read m k
 unfolding field_read
+field_read_back m k h = read_back (reading_of m k).number (reading_of m k).found (λ f e.
+    rw (part_of_message m k f e).part (take_bytes f.field.size (drop f.place m) (drop_bytes f.place m h)))
+
+-- What the code answers, by what its number and values tell.
+field_answer_told : (m : List ℕ) (k : ℕ) → Bytes m → (r : Result FieldRead Refusal) → answer_of r ≡ field_read m k
+    → field_told (field_read_from (flat_field (answer_of r))) ≡ r
+field_answer_told m k h r e =
+    ap (λ (x : FieldAnswer). field_told (field_read_from (flat_field x))) e ∙ ap field_told (field_read_back m k h ∙ sym e) ∙ answer_back r
+
+reply_flat_back : (r : ReplyAnswer) → reply_from (flat_reply r) ≡ r
+reply_flat_back r = rw (stored_back r.value)
+
+pub flat_back : FlatBack
 flat_back =
     record {
-      reply_back = λ r. rw (stored_back r.value);
+      reply_back = reply_flat_back;
       values_back = λ v. rw (stored_back v.baud, stored_back v.accelerometer, stored_back v.gyroscope, stored_back v.number);
-      field_back = λ m k h. read_back (reading_of m k).number (reading_of m k).found (λ f e.
-          rw (part_of_message m k f e).part (take_bytes f.field.size (drop f.place m) (drop_bytes f.place m h)));
+      field_back = field_read_back;
+      reply_answer_back = λ r. ap reply_told (reply_flat_back (reply_of r)) ∙ reply_back r;
+      field_answer_back = field_answer_told;
+      written_answer_back = written_back;
+      number_answer_back = number_back;
     }
 
 -- ---- a field in its message

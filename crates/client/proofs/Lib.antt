@@ -6,5 +6,6 @@ pub mod Replies
 pub mod RowTurns
 pub mod Rows
 pub mod Tests
+pub mod Told
 pub mod Writings
 pub mod Written

@@ -11,7 +11,7 @@ use Rattle.message.specs.Whole.{whole_number}
 use Rattle.command.specs.Errors.{most_fields}
 use Rattle.command.specs.Numbers.{numbered_kind}
 use Rattle.refusal.specs.declared.Refusal.{Refusal}
-use Rattle.refusal.specs.Refusal.{refusal_number}
+use Rattle.refusal.specs.Refusal.{refusal_number, answer_from}
 use Rattle.client.specs.declared.reader.Reply.{Reply}
 
 -- ---- the types
@@ -125,3 +125,7 @@ reply_read m k = whole_on (whole_number m) m k
 abbrev pub reply_of : Result Reply Refusal → ReplyAnswer
 reply_of (Ok r) = record { number = 0; kind = r.kind; echo = r.echo; error = r.error; value = r.value }
 reply_of (Err e) = no_reply (refusal_number e)
+
+-- Back: the code's answer that a number and a row tell.
+abbrev pub reply_told : ReplyAnswer → Result Reply Refusal
+reply_told a = answer_from a.number (record { kind = a.kind; echo = a.echo; error = a.error; value = a.value })

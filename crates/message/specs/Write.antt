@@ -2,7 +2,7 @@
 use Rattle.std.specs.Prelude.{ℕ, ◌+◌, Bool, true, false, cond, List, ◌++◌, length, take, drop, nat_lt, Result, Ok, Err}
 use Rattle.refusal.specs.declared.Refusal.{Refusal}
 use Rattle.refusal.specs.declared.Refusal.TheVariants.{Payload, Room}
-use Rattle.refusal.specs.Refusal.{refusal_number}
+use Rattle.refusal.specs.Refusal.{refusal_number, answer_from}
 use Rattle.message.specs.declared.write.Written.{Written}
 use Rattle.message.specs.Message.{message_of}
 
@@ -15,6 +15,10 @@ pub record Writing : Type 0 where
 abbrev pub written_of : Result ℕ Refusal → Written
 written_of (Ok n) = record { number = 0; length = n }
 written_of (Err r) = record { number = refusal_number r; length = 0 }
+
+-- Back: the answer that a number and a length tell.
+abbrev pub written_told : Written → Result ℕ Refusal
+written_told w = answer_from w.number w.length
 
 -- A refusal: its number, length 0, and nothing is written.
 abbrev pub refused_writing : ℕ → List ℕ → Writing

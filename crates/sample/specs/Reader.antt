@@ -2,7 +2,7 @@
 use Rattle.std.specs.Prelude.{ℕ, zero, suc, ◌+◌, Bool, true, false, ◌&&◌, ◌||◌, not, List, [], ◌∷◌, eqb, Result, Ok, Err}
 use Rattle.std.proofs.Math.Option.{Option, none, some}
 use Rattle.refusal.specs.declared.Refusal.{Refusal}
-use Rattle.refusal.specs.Refusal.{refusal_number}
+use Rattle.refusal.specs.Refusal.{refusal_number, answer_from}
 use Rattle.message.specs.Message.{type_of, payload_of}
 use Rattle.message.specs.Whole.{whole_number}
 use Rattle.message.specs.Fields.{Field, fields_of}
@@ -99,6 +99,10 @@ field_read m k = read_on (reading_of m k).found (reading_of m k).number
 abbrev pub answer_of : Result FieldRead Refusal → FieldAnswer
 answer_of (Ok f) = record { number = 0; field = f.field; place = f.place; size = f.size }
 answer_of (Err r) = record { number = refusal_number r; field = Unknown 0 0; place = 0; size = 0 }
+
+-- Back: the answer that a number and values tell.
+abbrev pub field_told : FieldAnswer → Result FieldRead Refusal
+field_told a = answer_from a.number (record { field = a.field; place = a.place; size = a.size })
 
 abbrev pub data_found : Option Found → List ℕ
 data_found none = []
