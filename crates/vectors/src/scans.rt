@@ -115,9 +115,7 @@ fn fronts_agree(s: &[u8], held: &[u8], chunk: &[u8]) -> bool {
 fn seeks_agree(s: &[u8], held: &[u8], chunk: &[u8], ended: bool) -> bool {
     let n = held.len();
     let mut array = [0xEEu8; MOST + 3];
-    for (b, x) in array.iter_mut().zip(held) {
-        *b = *x;
-    }
+    message::copy_front(held, &mut array);
     let one = message::seek(s, ended);
     let over = message::Unread { held, chunk }.seek(ended);
     let kept = message::seek_held(prefix(&array, n + 3), n, chunk, ended);
