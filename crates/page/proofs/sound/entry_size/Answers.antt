@@ -1,19 +1,21 @@
--- `page::sound::entry_size` meets its contract: no body, one of three tests, and the size.
+-- `page::sound::entry_size` meets its contract: one test after the other, no body, and the size.
 use borrow.Author.Rules.{rules}
 use Rattle.page.proofs.Walks.{code_low, body_apart, size_missing, size_other, size_right_lem}
 use Rattle.page.proofs.sound.entry_size.Goals as goal
-use Rattle.page.proofs.sound.entry_size.Goals.{then-code-last-via-then-code-last, then-code-last-via-else-code-last+then-page-at, then-code-last-via-else-code-last+else-page-at+then-page-at-2}
-
-pub returns-in_err-size : goal.returns-in_err-size
-returns-in_err-size c = search (size_missing, rules)
-
-pub returns : goal.returns
-returns c = search (size_right_lem, c.in_ok-size.was, rules)
+use Rattle.page.proofs.sound.entry_size.Goals.{then-code-last-via-then-code-last, then-code-last-via-else-code-last+then-page-at}
 
 pub returns-then-code-last : goal.returns-then-code-last
 returns-then-code-last c =
     elim c.then-code-last.branch [
       | then-code-last-via-then-code-last w ↦ search (code_low, rules)
       | then-code-last-via-else-code-last+then-page-at w ↦ search (body_apart, rules)
-      | then-code-last-via-else-code-last+else-page-at+then-page-at-2 w ↦ search (size_other, c.in_ok-size.was, rules)
     ]
+
+pub returns-in_err-size : goal.returns-in_err-size
+returns-in_err-size c = search (size_missing, rules)
+
+pub returns-then-page-at-2 : goal.returns-then-page-at-2
+returns-then-page-at-2 c = search (size_other, c.in_ok-size.was, rules)
+
+pub returns : goal.returns
+returns c = search (size_right_lem, c.in_ok-size.was, rules)
