@@ -18,4 +18,5 @@ pub returns-then-page-at-2 : goal.returns-then-page-at-2
 returns-then-page-at-2 c = search (size_other, c.in_ok-size.was, rules)
 
 pub returns : goal.returns
-returns c = search (size_right_lem, c.in_ok-size.was, rules)
+returns c =
+    size_right_lem c.args.page.now c.args.at c.args.start c.args.last c.body_size.ensures c.in_ok-size.was c.if-code-last.false c.if-page-at.false c.if-page-at-2.false
