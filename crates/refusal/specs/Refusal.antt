@@ -30,16 +30,16 @@ unfoldable pub refusal_from : ℕ → Refusal
 refusal_from n =
     cond (eqb n 16) Port
     (cond (eqb n 17) Board
-      (cond (eqb n 18) Room
-        (cond (eqb n 19) PageSize
-          (cond (eqb n 20) Page
-            (cond (eqb n 21) NotWhole
-              (cond (eqb n 22) Sums
-                (cond (eqb n 23) Kind
-                  (cond (eqb n 24) Fields
-                    (cond (eqb n 25) FieldSize
-                      (cond (eqb n 26) Payload
-                        (cond (eqb n 27) NoField Command)))))))))))
+    (cond (eqb n 18) Room
+    (cond (eqb n 19) PageSize
+    (cond (eqb n 20) Page
+    (cond (eqb n 21) NotWhole
+    (cond (eqb n 22) Sums
+    (cond (eqb n 23) Kind
+    (cond (eqb n 24) Fields
+    (cond (eqb n 25) FieldSize
+    (cond (eqb n 26) Payload
+    (cond (eqb n 27) NoField Command)))))))))))
 
 -- The answer of a number and of what stands beside it: done with number 0, and else refused, whatever stands there.
 abbrev pub answer_from : {X : Type 0} → ℕ → X → Result X Refusal
