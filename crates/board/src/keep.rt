@@ -10,7 +10,7 @@ fn shift(bytes: &mut [u8; 260], held: usize, chunk: &[u8], from: usize, n: usize
     requires { (held ≤ 260) × (from + n ≤ held + length chunk.now) × (n ≤ 260) }
     ensures { bytes.new ≡ take n (drop from (take held bytes.old ++ chunk.now)) ++ drop n bytes.old }
 {
-    // a copy of nothing would still be a call
+    // most feeds keep nothing
     if n == 0 {
         return;
     }
