@@ -51,6 +51,7 @@ fn kind_of(code: u8) -> u8
 // `write_message` makes a message of it, of the same type; behind a number and the type, 5 bytes, one of type 7C. As in a command of
 // its own: function 1 with the value, the functions 2 to 5 without, Ping without both.
 // Kept: the length beside the room is the C interface (`ketphiroj_append_field`).
+#[inline(always)] // a call would answer through memory
 #[tactic(auto, unfolding(crate::specs::Writer::field_writing, crate::specs::Writer::acceptable))]
 pub fn append_field(
     kind: u8,
