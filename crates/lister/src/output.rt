@@ -1,5 +1,5 @@
 // What the program prints, gathered in a block that is written when the next line might not fit, and before each read.
-ghost use Rattle.std.specs.Prelude.{◌+◌, ◌≤◌, ◌≡◌, IfOk, length};
+ghost use Rattle.std.specs.Prelude.{◌+◌, ◌≤◌, ◌≡◌, IfOk, length, take};
 
 use std::fs::{Files, OpenOptions};
 use std::io::Write;
@@ -80,7 +80,8 @@ impl Lines {
 
 // The first `n` bytes, all where there are fewer: in a caller's proof nothing is left to show.
 fn prefix(s: &[u8], n: usize) -> &[u8]
-    ensures { length result.now ≤ n }
+    ensures bound { length result.now ≤ n }
+    ensures value { result.now ≡ take n s.now }
 {
     s.get(..n).unwrap_or(s)
 }
